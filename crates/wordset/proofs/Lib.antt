@@ -1,0 +1,11 @@
+pub mod BitLaws
+pub mod BelowLaws
+pub mod CompareLaws
+pub mod WordLaws
+pub mod PackLaws
+pub mod Answers
+pub mod SetLaws
+pub mod Filling
+pub mod Scanning
+pub mod Searching
+pub mod Collecting
