@@ -1,0 +1,82 @@
+-- Some naming fits every snapshot in which each name is on at most one node. Assumes nothing.
+use mathlib.Core.Path.{_≡_, refl, sym, ap, _∙_, subst}
+use mathlib.Core.Logic.{_⊎_, inl, inr}
+use mathlib.Core.List.{List, [], _∷_, map, List·Memᴰ·head, List·Memᴰ·tail}
+use Prim.Native.Nat.{ℕ, suc, _+_, _*_, _/_, _%_, _^_, _<_}
+use native.Mathlib.Nat.{mul-suc, mul-le-mul-right}
+use native.Mathlib.Omega.{arith}
+use lib.Pow.{pow-pos, pow-add, high, low}
+use lib.ListN.{length, getD, length-map}
+use lib.Dec.{T, eqb, eqb-refl}
+use Rattle.ctl.specs.Lists.{_∈_, any, imp, below}
+use Rattle.ctl.specs.Formula.{tru, lit}
+use Rattle.ctl.specs.Equality.{tag, num}
+use Rattle.ctl.specs.Snapshot.{Snapshot, NamesSingle}
+use Rattle.ctl.specs.Types.{inType}
+use Rattle.ctl.specs.Tableau.{Tableau, isName, namePlaces, otherPlaces, pack, namings, obeysFrom, obeys}
+use Rattle.ctl.specs.Evaluator.{sat}
+use Rattle.ctl.proofs.BoolLaws.{true-T, T-cast, decide-T, and-in, and-0, and-1, imp-in}
+use Rattle.ctl.proofs.ListLaws.{any-in, any-out, keep-out, below-in, below-out}
+use Rattle.ctl.proofs.NumberLaws.{number-lt}
+use Rattle.ctl.proofs.FormulaLaws.{is-lit}
+use Rattle.ctl.proofs.EvaluatorLaws.{sat-lit}
+use Rattle.ctl.proofs.NodeTypes.{nodeType, type-place}
+
+digit-lt : (c k s r : ℕ) → s < 2 ^ c → r < 2 ^ (c * k) → r * 2 ^ c + s < 2 ^ (c * suc k)
+digit-lt c k s r h l = rw (mul-suc c k, pow-add 2 (c * k) c) (omega (arith, mul-le-mul-right (2 ^ c) l))
+
+pack-lt : (l : List ℕ) (t : ℕ) → pack l t < 2 ^ length l
+unfolding pack
+pack-lt l t = subst (λ k. pack l t < 2 ^ k) (length-map l (inType t)) (number-lt (map (inType t) l))
+
+module _ (S : Tableau) (s : Snapshot) (single : NamesSingle (S .name) s) where
+  open Tableau S using (ln, name)
+
+  abbrev ty : ℕ → ℕ
+  ty i = nodeType S s i
+
+  -- a name's place is on at most one node
+  name-place : (v i j : ℕ) → v ∈ namePlaces S → i < s .n → j < s .n → T (inType (ty i) v) → T (inType (ty j) v) → i ≡ j
+  unfolding namePlaces
+  name-place v i j m il jl hi hj =
+      let w = keep-out (λ i. isName S (getD ln i tru)) (below (length ln)) m in
+      let p = getD ln v tru in
+      let isn = w .1 in
+      let e = is-lit p (and-0 (eqb (tag p) 2) (name (num p)) isn) in
+      let at : (k : ℕ) → T (inType (ty k) v) → T (sat s (lit (num p)) k) = λ k h. T-cast (type-place S s k v (below-out (length ln) (w .0)) ∙ ap (λ q. sat s q k) e) h in
+      single (num p) (and-1 (eqb (tag p) 2) (name (num p)) isn) i j il jl
+      (sym (sat-lit s (num p) i il) ∙ true-T (sat s (lit (num p)) i) (at i hi)) (sym (sat-lit s (num p) j jl) ∙ true-T (sat s (lit (num p)) j) (at j hj))
+
+  Places : List ℕ → Type 0
+  Places vs = (r : ℕ) × (r < 2 ^ (length (otherPlaces S) * length vs)) × ((i : ℕ) → i < s .n → T (obeysFrom S vs r (ty i)))
+
+  find-naming : (vs : List ℕ) → ((v : ℕ) → v ∈ vs → v ∈ namePlaces S) → Places vs
+  unfolding Places obeysFrom
+  find-naming [] sub = (0, pow-pos (length (otherPlaces S) * 0), λ i l. tt)
+  find-naming (v ∷ vs) sub = go (decide-T (any (λ i. inType (ty i) v) (below (s .n)))) (find-naming vs (λ w m. sub w (List·Memᴰ·tail m)))
+    where
+      c : ℕ
+      c = length (otherPlaces S)
+
+      -- the name's set before the sets of the later names
+      with-set : (w : ℕ) → w < 2 ^ c → ((i : ℕ) → i < s .n → T (inType (ty i) v) → pack (otherPlaces S) (ty i) ≡ w) → Places vs → Places (v ∷ vs)
+      with-set w l f rec = (
+        rec .0 * 2 ^ c + w,
+        digit-lt c (length vs) w (rec .0) l (rec .1),
+        λ i il. and-in (imp (inType (ty i) v) (eqb (pack (otherPlaces S) (ty i)) ((rec .0 * 2 ^ c + w) % 2 ^ c))) (obeysFrom S vs ((rec .0 * 2 ^ c + w) / 2 ^ c) (ty i))
+            (imp-in (inType (ty i) v) (eqb (pack (otherPlaces S) (ty i)) ((rec .0 * 2 ^ c + w) % 2 ^ c))
+            (λ h. rw (low (rec .0) c l, f i il h) (eqb-refl w)))
+            (rw (high (rec .0) c l) (rec .2 i il)),
+      )
+
+      go : T (any (λ i. inType (ty i) v) (below (s .n))) ⊎ (T (any (λ i. inType (ty i) v) (below (s .n))) → ⊥) → Places vs → Places (v ∷ vs)
+      go (inl h) rec =
+          let w = any-out (λ i. inType (ty i) v) (below (s .n)) h in
+          with-set (pack (otherPlaces S) (ty (w .0))) (pack-lt (otherPlaces S) (ty (w .0)))
+          (λ i il k. ap (λ x. pack (otherPlaces S) (ty x)) (name-place v i (w .0) (sub v (List·Memᴰ·head refl)) il (below-out (s .n) (w .1)) k (w .2))) rec
+      go (inr h) rec = with-set 0 (pow-pos c) (λ i il k. absurd (h (any-in (λ i. inType (ty i) v) (below-in il) k))) rec
+
+  -- some naming fits the snapshot
+  pub some-naming : (r : ℕ) × (r < namings S) × ((i : ℕ) → i < s .n → T (obeys S r (ty i)))
+  unfolding namings obeys Places
+  some-naming = find-naming (namePlaces S) (λ v m. m)

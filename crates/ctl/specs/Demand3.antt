@@ -1,0 +1,58 @@
+-- Demand 3 as one record over a sheet's formulas as typed: one claim about the whole elimination with its verdict, for every naming and every snapshot of any size.
+-- It speaks of nodes through the meaning over maximal paths alone. Assumes nothing.
+use mathlib.Core.Path.{_≡_}
+use mathlib.Core.Logic.{_↔_}
+use mathlib.Core.Bool.{Bool}
+use mathlib.Core.List.{List, [], _∷_, map}
+use Prim.Native.Nat.{ℕ, suc, _-_, _^_, _≤_, _<_}
+use lib.ListN.{length, getD}
+use lib.Dec.{T}
+use Rattle.ctl.specs.Lists.{_∈_}
+use Rattle.ctl.specs.Formula.{tru}
+use Rattle.ctl.specs.Raw.{Raw}
+use Rattle.ctl.specs.Positive.{positive, signed}
+use Rattle.ctl.specs.Snapshot.{Snapshot, NamesSingle}
+use Rattle.ctl.specs.Meaning.{Holds, HoldsRaw}
+use Rattle.ctl.specs.Types.{inType}
+use Rattle.ctl.specs.Tableau.{Tableau, tableauOf, namings, obeys, startTypes}
+use Rattle.ctl.specs.Verdict.{Verdict, unsatisfiable, MeetsIn, familyOf, roundsOf, survivingTypes, HasGoal}
+
+-- t is the type of node i: the set of the lean places that hold there by their meaning
+pub record NodeType (S : Tableau) (s : Snapshot) (i t : ℕ) : Type 0 where
+  pub small : t < 2 ^ length (S .ln)
+  pub place : (k : ℕ) → k < length (S .ln) → T (inType t k) ↔ Holds s (getD (S .ln) k tru) i
+
+-- Naming r fits the snapshot: each occurring name that a node carries has the non-name places of the node's type. That is, the type of every node obeys.
+abbrev pub Fits : Tableau → ℕ → Snapshot → Type 0
+Fits S r s = (i t : ℕ) → i < s .n → NodeType S s i t → T (obeys S r t)
+
+-- every global holds at every node
+abbrev pub GlobalsHold : List Raw → Snapshot → Type 0
+GlobalsHold globals s = (g : Raw) → g ∈ globals → (i : ℕ) → i < s .n → HoldsRaw s g i
+
+-- the tableau of a sheet with one goal
+unfoldable pub sheetTableau : (ℕ → ℕ) → (ℕ → Bool) → List Raw → Raw → Tableau
+unfolding tableauOf signed
+sheetTableau letter name globals goal = tableauOf letter name (map positive globals) (positive goal ∷ [])
+
+-- `letter` gives the symbols' letters, `name` says which symbols are names
+module _ (letter : ℕ → ℕ) (name : ℕ → Bool) (globals : List Raw) (goal : Raw) where
+  abbrev S : Tableau
+  S = sheetTableau letter name globals goal
+
+  pub record Demand3 (answer : Verdict) : Type 0 where
+    -- (a) unsatisfiable is said exactly when under no naming a surviving type makes the goal true
+    pub unsatisfiable-iff : (answer ≡ unsatisfiable) ↔ ((r t : ℕ) → r < namings S → HasGoal S (positive goal) r t → ⊥)
+    -- (b) under every naming there are at most as many rounds as types at start less those left, and each family is the one before less those that fail
+    pub rounds-few : (r : ℕ) → roundsOf S r ≤ length (startTypes S r) - length (survivingTypes S r)
+    pub family-next : (r k t : ℕ) → (t ∈ familyOf S r (suc k)) ↔ ((t ∈ familyOf S r k) × MeetsIn S (familyOf S r k) t)
+    -- (c) every node has one type; where every global holds at every node, each name is on at most one node and the naming fits, that type is there at the start, after every
+    -- round and at the end
+    pub one-type : (s : Snapshot) (i : ℕ) → i < s .n → (t : ℕ) × NodeType S s i t × ((u : ℕ) → NodeType S s i u → u ≡ t)
+    pub at-start : (s : Snapshot) → NamesSingle name s → GlobalsHold globals s → (r : ℕ) → Fits S r s → (i t : ℕ) → i < s .n → NodeType S s i t → t ∈ startTypes S r
+    pub after-rounds : (s : Snapshot) → NamesSingle name s → GlobalsHold globals s → (r : ℕ) → Fits S r s → (i t : ℕ) → i < s .n → NodeType S s i t → (k : ℕ) → t ∈ familyOf S r k
+    pub at-end : (s : Snapshot) → NamesSingle name s → GlobalsHold globals s → (r : ℕ) → Fits S r s → (i t : ℕ) → i < s .n → NodeType S s i t → t ∈ survivingTypes S r
+    -- (d) some naming fits every snapshot in which each name is on at most one node
+    pub some-naming : (s : Snapshot) → NamesSingle name s → (r : ℕ) × (r < namings S) × Fits S r s
+    -- (e) so after unsatisfiable no such snapshot where every global also holds at every node has the goal at any node
+    pub goal-nowhere : answer ≡ unsatisfiable → (s : Snapshot) → NamesSingle name s → GlobalsHold globals s → (i : ℕ) → i < s .n → ¬ HoldsRaw s goal i

@@ -1,0 +1,48 @@
+-- Lists searched, kept and counted by a test, and the numbers below a bound. Assumes nothing.
+use mathlib.Core.Bool.{Bool, true, false, _&&_, _||_}
+use mathlib.Core.List.{List, [], _∷_, List·Memᴰ}
+use Prim.Native.Nat.{ℕ, zero, suc}
+use lib.Dec.{eqb}
+
+-- a is in the list
+infix 4 _∈_
+abbrev pub _∈_ {ℓ} : {A : Type ℓ} → A → List A → Type ℓ
+a ∈ l = List·Memᴰ a l
+
+-- a implies b
+abbrev pub imp : Bool → Bool → Bool
+imp true b = b
+imp false b = true
+
+-- x before the list, if b
+abbrev pub put {ℓ} : {A : Type ℓ} → Bool → A → List A → List A
+put true x l = x ∷ l
+put false x l = l
+
+module _ {ℓ} {A : Type ℓ} where
+  -- some, or every, element passes the test. The `let` keeps the rest of the list from being looked at where it does not matter.
+  abbrev pub any : (A → Bool) → List A → Bool
+  any p [] = false
+  any p (x ∷ xs) = let rest = any p xs in p x || rest
+
+  abbrev pub all : (A → Bool) → List A → Bool
+  all p [] = true
+  all p (x ∷ xs) = let rest = all p xs in p x && rest
+
+  -- the elements that pass the test, in their order
+  abbrev pub keep : (A → Bool) → List A → List A
+  keep p [] = []
+  keep p (x ∷ xs) = put (p x) x (keep p xs)
+
+-- the number is in the list
+unfoldable pub elem : ℕ → List ℕ → Bool
+elem n l = any (eqb n) l
+
+-- the n numbers from a on
+abbrev pub countFrom : ℕ → ℕ → List ℕ
+countFrom a zero = []
+countFrom a (suc n) = a ∷ countFrom (suc a) n
+
+-- 0, 1 .. n - 1
+abbrev pub below : ℕ → List ℕ
+below n = countFrom 0 n
