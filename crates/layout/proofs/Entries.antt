@@ -1,0 +1,106 @@
+-- The entries of a sheet's declarations: each names no symbol, or one of those declared. Assumes nothing.
+use mathlib.Core.Path.{_≡_, refl, ap, _∙_}
+use mathlib.Core.Bool.{Bool, true, false, cond}
+use mathlib.Core.Logic.{_⊎_, inl, inr}
+use mathlib.Core.List.{List, [], _∷_}
+use Prim.Native.Nat.{ℕ, zero, suc, _+_, _-_, _≤_, _<_}
+use native.Mathlib.Nat.{add-zero}
+use native.Mathlib.Decide.{decLt, ℕ-discrete}
+use native.Mathlib.Omega.{arith}
+use lib.Dec.{eqb}
+use lib.ListN.{length, getD, set, replicate, getD-replicate, List·getD-eq-default, length-replicate, length-set}
+use lib.Seq.{getD-set-same, getD-set-other, set-out}
+use borrow.Author.Tests.{le-leb}
+use Rattle.layout.specs.Layout.{lower, entryOf, declare, declared, letters, kinds}
+use Rattle.layout.proofs.Letters.{sheet-letters}
+
+-- with n symbols: 0 undeclared, from 1 on a mark or name, from 9 on a field
+abbrev pub Entry : ℕ → ℕ → Type 0
+Entry n v = (v ≡ 0) ⊎ (((1 ≤ v) × (v ≤ n)) ⊎ ((9 ≤ v) × (v < 9 + n)))
+
+abbrev pub Entries : ℕ → List ℕ → Type 0
+Entries n tab = (k : ℕ) → Entry n (getD tab k 0)
+
+set-from : (n : ℕ) (tab : List ℕ) (j v k : ℕ) → Entries n tab → Entry n v → Dec (k ≡ j) → Dec (j < length tab) → Entry n (getD (set tab j v) k 0)
+set-from n tab j v k x e (no p) d = rw (getD-set-other tab j k v 0 p) (x k)
+set-from n tab j v k x e (yes p) (yes q) = rw (p, getD-set-same tab j v 0 q) e
+set-from n tab j v k x e (yes p) (no q) = rw (set-out tab j v (omega arith)) (x k)
+
+entry-from : (n i : ℕ) → i < n → (t : Bool) → Entry n (cond t (9 + i) (1 + i))
+entry-from n i h true = inr (inr (omega arith, omega arith))
+entry-from n i h false = inr (inl (omega arith, omega arith))
+
+step : (n : ℕ) (tab : List ℕ) (j v : ℕ) (t : Bool) → Entries n tab → Entry n v → Entries n (cond t (set tab j v) tab)
+step n tab j v true x e k = set-from n tab j v k x e (ℕ-discrete k j) (decLt j (length tab))
+step n tab j v false x e k = x k
+
+pub declare-entries : (n i : ℕ) (cs ks tab : List ℕ) → i + length cs ≤ n → Entries n tab → Entries n (declare i cs ks tab)
+unfolding declare
+declare-entries n i [] ks tab h x = x
+declare-entries n i (c ∷ cs) [] tab h x = x
+declare-entries n i (c ∷ cs) (k ∷ ks) tab h x =
+    declare-entries n (suc i) cs ks (cond (lower c) (set tab (c - 97) (entryOf i k)) tab) (omega arith) (step n tab (c - 97) (entryOf i k) (lower c) x (entry-from n i (omega arith) (eqb k 3)))
+
+blank-from : (n k : ℕ) → Dec (k < 26) → Entry n (getD (replicate 26 0) k 0)
+blank-from n k (yes p) = inl (getD-replicate 26 k 0 0 p)
+blank-from n k (no p) = inl (List·getD-eq-default (replicate 26 0) 0 {n = k} (rw length-replicate (omega arith)))
+
+pub declared-entries : (cs ks : List ℕ) → Entries (length cs) (declared cs ks)
+unfolding declared
+declared-entries cs ks = declare-entries (length cs) 0 cs ks (replicate 26 0) (omega arith) (λ k. blank-from (length cs) k (decLt k 26))
+
+-- ---- the entry of a declared letter is its symbol's, by number and kind
+abbrev Low : List ℕ → Type 0
+Low cs = (k : ℕ) → k < length cs → 97 ≤ getD cs k 0
+
+keep-one : (c d v : ℕ) (tab : List ℕ) (t : Bool) → 97 ≤ c → 97 ≤ d → (d ≡ c → ⊥) → getD (cond t (set tab (d - 97) v) tab) (c - 97) 0 ≡ getD tab (c - 97) 0
+keep-one c d v tab true l m ne = getD-set-other tab (d - 97) (c - 97) v 0 (λ e. ne (omega arith))
+keep-one c d v tab false l m ne = refl
+
+keep : (c i : ℕ) (cs ks tab : List ℕ) → 97 ≤ c → Low cs → ((k : ℕ) → k < length cs → getD cs k 0 ≡ c → ⊥) → getD (declare i cs ks tab) (c - 97) 0 ≡ getD tab (c - 97) 0
+unfolding declare
+keep c i [] ks tab l low other = refl
+keep c i (d ∷ cs) [] tab l low other = refl
+keep c i (d ∷ cs) (k ∷ ks) tab l low other =
+    keep c (suc i) cs ks (cond (lower d) (set tab (d - 97) (entryOf i k)) tab) l (λ j h. low (suc j) (omega arith)) (λ j h e. other (suc j) (omega arith) e)
+    ∙ keep-one c d (entryOf i k) tab (lower d) l (low 0 (omega arith)) (other 0 (omega arith))
+
+same-size : (t : Bool) (tab : List ℕ) (j v : ℕ) → length (cond t (set tab j v) tab) ≡ length tab
+same-size true tab j v = length-set tab j v
+same-size false tab j v = refl
+
+entry : (i : ℕ) (cs ks tab : List ℕ) (j : ℕ) → length tab ≡ 26 → Low cs → ((k : ℕ) → k < length cs → getD cs k 0 ≤ 122)
+    → ((a b : ℕ) → a < length cs → b < length cs → getD cs a 0 ≡ getD cs b 0 → a ≡ b) → j < length cs → j < length ks
+    → getD (declare i cs ks tab) (getD cs j 0 - 97) 0 ≡ entryOf (i + j) (getD ks j 0)
+unfolding declare
+entry i [] ks tab j z low high diff h g = absurd (omega arith)
+entry i (c ∷ cs) [] tab j z low high diff h g = absurd (omega arith)
+entry i (c ∷ cs) (k ∷ ks) tab zero z low high diff h g =
+    let l : 97 ≤ c = low 0 (omega arith) in
+    let m : c ≤ 122 = high 0 (omega arith) in
+    let q : c - 97 < length tab = omega arith in
+    keep c (suc i) cs ks (cond (lower c) (set tab (c - 97) (entryOf i k)) tab) l (λ a p. low (suc a) (omega arith))
+    (λ a p e. let w : suc a ≡ 0 = diff (suc a) 0 (omega arith) (omega arith) e in absurd (omega arith))
+    ∙ rw (le-leb 97 c l, le-leb c 122 m, getD-set-same tab (c - 97) (entryOf i k) 0 q, add-zero i)
+entry i (c ∷ cs) (k ∷ ks) tab (suc j) z low high diff h g =
+    let e : suc i + j ≡ i + suc j = omega arith in
+    entry (suc i) cs ks (cond (lower c) (set tab (c - 97) (entryOf i k)) tab) j (same-size (lower c) tab (c - 97) (entryOf i k) ∙ z) (λ a p. low (suc a) (omega arith)) (λ a p. high (suc a) (omega arith))
+    (λ a b p r f. let w : suc a ≡ suc b = diff (suc a) (suc b) (omega arith) (omega arith) f in omega arith) (omega arith) (omega arith)
+    ∙ ap (λ (n : ℕ). entryOf n (getD ks j 0)) e
+
+pub sheet-entry : (s : List ℕ) (j : ℕ) → j < length (letters s) → j < length (kinds s)
+    → getD (declared (letters s) (kinds s)) (getD (letters s) j 0 - 97) 0 ≡ entryOf j (getD (kinds s) j 0)
+unfolding declared
+sheet-entry s j h g =
+    let x = sheet-letters s in
+    let z : 0 + j ≡ j = omega arith in
+    entry 0 (letters s) (kinds s) (replicate 26 0) j (length-replicate {A = ℕ} 26 0) (x .low) (x .high) (x .different) h g ∙ ap (λ (n : ℕ). entryOf n (getD (kinds s) j 0)) z
+
+-- a lower-case letter that is not declared has the entry 0
+pub sheet-no-entry : (s : List ℕ) (c : ℕ) → 97 ≤ c → ((k : ℕ) → k < length (letters s) → getD (letters s) k 0 ≡ c → ⊥) → getD (declared (letters s) (kinds s)) (c - 97) 0 ≡ 0
+unfolding declared
+sheet-no-entry s c l other = keep c 0 (letters s) (kinds s) (replicate 26 0) l (sheet-letters s .low) other ∙ blank (c - 97) (decLt (c - 97) 26)
+  where
+    blank : (k : ℕ) → Dec (k < 26) → _≡_ {A = ℕ} (getD (replicate 26 0) k 0) 0
+    blank k (yes p) = getD-replicate 26 k 0 0 p
+    blank k (no p) = List·getD-eq-default (replicate 26 0) 0 {n = k} (rw length-replicate (omega arith))

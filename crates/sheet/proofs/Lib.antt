@@ -1,0 +1,6 @@
+pub mod FormulaLaws
+pub mod SheetLaws
+pub mod PlacedLaws
+pub mod Examples
+pub mod Alphabet
+pub mod RefusalLaws
