@@ -5,6 +5,7 @@ use Prim.Native.Nat.{ℕ, _+_, _^_, _≤_, _<_}
 use Rattle.ctl.specs.Lists.{_∈_}
 use Rattle.ctl.specs.Formula.{Form, tru, fls, lit, nlit, and, or, ex, ax, eu, au, er, ar}
 use Rattle.ctl.specs.Modes.{modes}
+use Rattle.ctl.specs.Raw.{Raw}
 
 -- `letter` gives `count` different lower-case letters
 pub record Alphabet (letter : ℕ → ℕ) (count : ℕ) : Type 0 where
@@ -36,3 +37,23 @@ module _ (count : ℕ) where
   Over (au A p q) = DeclaredAll A × Over p × Over q
   Over (er A p q) = DeclaredAll A × Over p × Over q
   Over (ar A p q) = DeclaredAll A × Over p × Over q
+
+  -- the same of a formula as typed
+  abbrev pub OverRaw : Raw → Type 0
+  OverRaw Raw.zero = Unit {0}
+  OverRaw Raw.one = Unit {0}
+  OverRaw (Raw.sym k) = k < count
+  OverRaw (Raw.neg p) = OverRaw p
+  OverRaw (Raw.and p q) = OverRaw p × OverRaw q
+  OverRaw (Raw.or p q) = OverRaw p × OverRaw q
+  OverRaw (Raw.imp p q) = OverRaw p × OverRaw q
+  OverRaw (Raw.ex A p) = DeclaredAll A × OverRaw p
+  OverRaw (Raw.ax A p) = DeclaredAll A × OverRaw p
+  OverRaw (Raw.ef A p) = DeclaredAll A × OverRaw p
+  OverRaw (Raw.af A p) = DeclaredAll A × OverRaw p
+  OverRaw (Raw.eg A p) = DeclaredAll A × OverRaw p
+  OverRaw (Raw.ag A p) = DeclaredAll A × OverRaw p
+  OverRaw (Raw.eu A p q) = DeclaredAll A × OverRaw p × OverRaw q
+  OverRaw (Raw.au A p q) = DeclaredAll A × OverRaw p × OverRaw q
+  OverRaw (Raw.er A p q) = DeclaredAll A × OverRaw p × OverRaw q
+  OverRaw (Raw.ar A p q) = DeclaredAll A × OverRaw p × OverRaw q

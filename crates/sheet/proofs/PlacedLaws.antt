@@ -6,7 +6,7 @@ use native.Mathlib.Omega.{arith}
 use lib.ListN.{length, take, length-append}
 use lib.Seq.{length-take-le, take-take, take-append-seam}
 use Rattle.syntax.specs.Raw.{Raw, size, nodes}
-use Rattle.syntax.proofs.TreeLaws.{length-nodes, wrote-stands, at-nodes}
+use Rattle.syntax.proofs.TreeLaws.{length-nodes, wrote-held, at-nodes}
 use Rattle.sheet.specs.Sheet.{nodesFrom, endsFrom, endsOf, Placed, trees, Stored}
 
 pub record More (ns all : List ℕ) : Type 0 where
@@ -36,7 +36,7 @@ module _ (tab : List ℕ) (m : ℕ) (inside : m ≤ length tab) where
       let front : take (n + size p) tab ≡ take n tab ++ nodes n p =
       sym (take-take (n + size p) m tab fits) ∙ ap (λ (t : List ℕ). take (n + size p) t) all ∙ ap (λ (i : ℕ). take i ((take n tab ++ nodes n p) ++ w .rest)) (sym k)
       ∙ take-append-seam (take n tab ++ nodes n p) (w .rest) in (
-        at-nodes tab n p (wrote-stands n (n + size p) (nodes n p) tab tab h (rw length-nodes) (record { front = front; rest = refl })),
+        at-nodes tab n p (wrote-held n (n + size p) (nodes n p) tab tab h (rw length-nodes) (record { front = front; rest = refl })),
         placed ps (n + size p) (omega arith) (e′ ∙ ap (λ (t : List ℕ). nodesFrom t ps) (sym front)),
       )
 

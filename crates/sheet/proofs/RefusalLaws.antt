@@ -1,13 +1,17 @@
 -- The refusal that the reader works out, formula by formula, is the first of document 01's conditions that applies. Assumes nothing.
-use mathlib.Core.Path.{_≡_, refl, ap, _∙_}
+use mathlib.Core.Path.{_≡_, refl, sym, ap, _∙_}
 use mathlib.Core.Bool.{Bool, true, false, cond, not, _||_, or-false, or-assoc}
-use mathlib.Core.List.{List, [], _∷_}
-use Prim.Native.Nat.{ℕ, min}
+use mathlib.Core.Logic.{_⊎_, inl, inr}
+use mathlib.Core.List.{List, [], _∷_, _++_, List·Memᴰ·head, List·Memᴰ·tail, List·Memᴰ·cases-cons, List·Memᴰ·not-nil}
+use Prim.Native.Nat.{ℕ, suc, _+_, _<_, min}
+use native.Mathlib.Omega.{arith}
 use lib.Dec.{eqb, ltb}
-use Rattle.ctl.specs.Lists.{any}
+use lib.ListN.{length}
+use borrow.Author.Tests.{ne-eqb, not-false}
+use Rattle.ctl.specs.Lists.{_∈_, any}
 use Rattle.syntax.specs.Parse.{Out, good, bad}
 use Rattle.layout.specs.Layout.{lengthWrong, byteWrong, layoutRight, texts, layoutRefusal}
-use Rattle.sheet.specs.Refusal.{decls, read, unread, finds, namesWrong, kindsWrong, grammarWrong, symbolsWrong, bracesWrong, firstOf, readRefusal}
+use Rattle.sheet.specs.Refusal.{decls, read, unread, finds, namesWrong, kindsWrong, grammarWrong, symbolsWrong, bracesWrong, firstOf, conditions, readRefusal}
 use Rattle.sheet.specs.Sheet.{foundRefusal, lineRefusal, lowest, sheetRefusal}
 
 -- ---- the refusals 6 to 8
@@ -76,8 +80,44 @@ first-five false false false false true bs = refl
 first-five false false false false false bs = refl
 
 pub sheet-refusal : (s : List ℕ) → sheetRefusal s ≡ readRefusal s
-unfolding sheetRefusal readRefusal layoutRefusal grammarWrong symbolsWrong bracesWrong
+unfolding sheetRefusal readRefusal conditions layoutRefusal grammarWrong symbolsWrong bracesWrong
 sheet-refusal s =
     ap (λ r. cond (eqb (layoutRefusal s) 0) r (layoutRefusal s))
     (ap (λ l. cond (ltb l 9) l 0) (lowest-is (decls s) false false false (texts s)) ∙ low-first (grammarWrong s) (symbolsWrong s) (bracesWrong s))
     ∙ first-five (lengthWrong s) (byteWrong s) (not (layoutRight s)) (namesWrong s) (kindsWrong s) (grammarWrong s ∷ symbolsWrong s ∷ bracesWrong s ∷ [])
+
+-- ---- what a number says of the conditions
+
+-- where none applies, each is false
+pub first-none : (k : ℕ) (bs : List Bool) → 0 < k → firstOf k bs ≡ 0 → (b : Bool) → b ∈ bs → b ≡ false
+first-none k [] h e b m = absurd (List·Memᴰ·not-nil m)
+first-none k (true ∷ bs) h e b m = absurd (omega arith)
+first-none k (false ∷ bs) h e b m = go (List·Memᴰ·cases-cons m) (first-none (suc k) bs (omega arith) e b)
+  where
+    go : (b ≡ false) ⊎ (b ∈ bs) → (b ∈ bs → b ≡ false) → b ≡ false
+    go (inl i) rec = i
+    go (inr i) rec = rec i
+
+-- further conditions: the first of both lists that applies
+pub first-append : (k : ℕ) (xs bs : List Bool) → 0 < k → firstOf k (xs ++ bs) ≡ cond (eqb (firstOf k xs) 0) (firstOf (k + length xs) bs) (firstOf k xs)
+first-append k [] bs h = ap (λ n. firstOf n bs) (omega arith)
+first-append k (true ∷ xs) bs h = sym (ap (λ t. cond t (firstOf (k + length (true ∷ xs)) bs) k) (ne-eqb k 0 (omega arith)))
+first-append k (false ∷ xs) bs h = first-append (suc k) xs bs (omega arith) ∙ ap (λ n. cond (eqb (firstOf (suc k) xs) 0) (firstOf n bs) (firstOf (suc k) xs)) (omega arith)
+
+-- a sheet that is not refused by 1 to 8
+module _ (s : List ℕ) (e : readRefusal s ≡ 0) where
+  none : (b : Bool) → b ∈ conditions s → b ≡ false
+  unfolding readRefusal
+  none = first-none 1 (conditions s) (omega arith) e
+
+  pub right-layout : layoutRight s ≡ true
+  unfolding conditions
+  right-layout = not-false (layoutRight s) (none (not (layoutRight s)) (List·Memᴰ·tail (List·Memᴰ·tail (List·Memᴰ·head refl))))
+
+  pub right-grammar : grammarWrong s ≡ false
+  unfolding conditions
+  right-grammar = none (grammarWrong s) (List·Memᴰ·tail (List·Memᴰ·tail (List·Memᴰ·tail (List·Memᴰ·tail (List·Memᴰ·tail (List·Memᴰ·head refl))))))
+
+  pub right-symbols : symbolsWrong s ≡ false
+  unfolding conditions
+  right-symbols = none (symbolsWrong s) (List·Memᴰ·tail (List·Memᴰ·tail (List·Memᴰ·tail (List·Memᴰ·tail (List·Memᴰ·tail (List·Memᴰ·tail (List·Memᴰ·head refl)))))))

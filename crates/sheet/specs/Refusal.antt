@@ -49,11 +49,10 @@ firstOf k [] = 0
 firstOf k (true ∷ bs) = k
 firstOf k (false ∷ bs) = firstOf (suc k) bs
 
--- the lowest of the refusals 1 to 8 that applies, over the whole sheet; 0 where none does
-unfoldable pub readRefusal : List ℕ → ℕ
-readRefusal s =
-    firstOf 1
-    (lengthWrong s
+-- the conditions 1 to 8, in their order
+unfoldable pub conditions : List ℕ → List Bool
+conditions s =
+    lengthWrong s
     ∷ byteWrong s
     ∷ not (layoutRight s)
     ∷ namesWrong s
@@ -61,4 +60,9 @@ readRefusal s =
     ∷ grammarWrong s
     ∷ symbolsWrong s
     ∷ bracesWrong s
-    ∷ [])
+    ∷ []
+
+-- the lowest number that applies, over the whole sheet; 0 where none does
+unfoldable pub readRefusal : List ℕ → ℕ
+unfolding conditions
+readRefusal s = firstOf 1 (conditions s)

@@ -15,7 +15,7 @@ pub struct One {
 }
 
 // The refusal that a reading found: 7, 8, or 9 for none.
-pub fn found_refusal(low: u8) -> u8
+fn found_refusal(low: u8) -> u8
     ensures { λ r. ⌜ r ≡ foundRefusal low ⌝ }
 {
     if low == 7 {
@@ -27,7 +27,7 @@ pub fn found_refusal(low: u8) -> u8
     9
 }
 
-pub fn read_one(text: &[u8], decl: &[u8], tab: &mut [u64], n: usize) -> One
+fn read_one(text: &[u8], decl: &[u8], tab: &mut [u64], n: usize) -> One
     requires { ⌜ (n + length (now text) ≤ length (now tab)) × (length (now tab) ≤ 1024) ⌝ }
     ensures { λ r. ⌜ OneRead (now (text .entry)) (now (decl .entry)) n (now (tab .entry)) (now (tab .exit)) r ⌝ }
 {
@@ -53,7 +53,7 @@ pub struct Formulas {
 }
 
 // The formulas on the lines from a line's beginning on, into a table.
-pub fn read_formulas(s: &[u8], from: usize, decl: &[u8], tab: &mut [u64]) -> Formulas
+fn read_formulas(s: &[u8], from: usize, decl: &[u8], tab: &mut [u64]) -> Formulas
     requires { ⌜ (length (now s) ≤ 1024) × ((length (now tab) ≡ 1024) × (length (textsOf (linesFrom (now s) from)) ≤ 5)) ⌝ }
     ensures { λ r. ⌜ FormulasRead (now (decl .entry)) (textsOf (linesFrom (now (s .entry)) from)) (now (tab .exit)) r ⌝ }
 {
@@ -101,7 +101,7 @@ pub struct Sheet {
 }
 
 // A refused sheet.
-pub fn refused(k: u8) -> Sheet
+fn refused(k: u8) -> Sheet
     ensures { λ r. ⌜ r .refusal ≡ k ⌝ }
 {
     Sheet {
@@ -148,19 +148,10 @@ pub fn read_sheet(s: &[u8], tab: &mut [u64]) -> Sheet
     }
 }
 
-// The lowest of the refusals 1 to 8 that applies, 0 for none.
-pub fn refusal(s: &[u8]) -> u8
-    ensures { λ r. ⌜ r ≡ sheetRefusal (now (s .entry)) ⌝ }
-{
-    let mut tab = [0u64; 1024];
-    let r = read_sheet(s, &mut tab);
-    r.refusal
-}
-
 // The goal's text, a part of the sheet; empty with a refusal, which the caller gives.
 pub fn goal_part(s: &[u8], refusal: u8) -> &[u8]
     ensures { λ r. ⌜ now r ≡ goalUnder (now (s .entry)) refusal ⌝ }
-    ensures { λ r. ⌜ (r .ptr .0 ≡ s .entry .ptr .0) × ((layoutRight (now (s .entry)) ≡ true) → r .ptr .1 ≡ s .entry .ptr .1 + goalStart (now (s .entry)) refusal) ⌝ }
+    ensures { λ r. ⌜ (r .ptr .0 ≡ s .entry .ptr .0) × ((refusal ≡ 0 → layoutRight (now (s .entry)) ≡ true) → r .ptr .1 ≡ s .entry .ptr .1 + goalStart (now (s .entry)) refusal) ⌝ }
 {
     if refusal != 0 {
         return &s[0..0];

@@ -43,7 +43,7 @@ returns-2 c =
     let b2 = b1 .before in
     let b3 = b2 .before in (
       goal-is _ _ _ (b2 .third-line .result) (b3 .if1 .left) (b2 .third-line .ensures .1) (b1 .last-text .ensures .is),
-      (refl, λ e. (let p = goal-place _ _ (b2 .third-line .result) _ (b3 .if1 .left) (b2 .third-line .ensures .1) (b1 .last-text .ensures) e in omega arith)),
+      (refl, λ e. (let p = goal-place _ _ (b2 .third-line .result) _ (b3 .if1 .left) (b2 .third-line .ensures .1) (b1 .last-text .ensures) (e (b3 .if1 .left)) in omega arith)),
     )
 
 pub goal-part-spec : {M : Type 1} → statement M

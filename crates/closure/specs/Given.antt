@@ -1,0 +1,48 @@
+-- Formulas as read, in the parser's table of nodes, that a closure is made of. Assumes nothing.
+use mathlib.Core.Path.{_≡_}
+use mathlib.Core.Bool.{Bool}
+use mathlib.Core.List.{List}
+use Prim.Native.Nat.{ℕ, _≤_, _<_}
+use lib.ListN.{length, getD}
+use Rattle.ctl.specs.Positive.{signed}
+use Rattle.ctl.specs.Closure.{closureOf}
+use Rattle.closure.specs.Grown.{Answer}
+use Rattle.syntax.specs.Raw.{Raw, zero, one, sym, neg, and, or, imp, ex, ax, ef, af, eg, ag, eu, au, er, ar, At}
+use Rattle.closure.specs.declared.Added.{Added}
+
+-- every symbol and every set of modes fits a member's word
+unfoldable pub Fits : Raw → Type 0
+Fits zero = Unit {0}
+Fits one = Unit {0}
+Fits (sym k) = k < 65536
+Fits (neg p) = Fits p
+Fits (and p q) = Fits p × Fits q
+Fits (or p q) = Fits p × Fits q
+Fits (imp p q) = Fits p × Fits q
+Fits (ex A p) = (A < 65536) × Fits p
+Fits (ax A p) = (A < 65536) × Fits p
+Fits (ef A p) = (A < 65536) × Fits p
+Fits (af A p) = (A < 65536) × Fits p
+Fits (eg A p) = (A < 65536) × Fits p
+Fits (ag A p) = (A < 65536) × Fits p
+Fits (eu A p q) = (A < 65536) × Fits p × Fits q
+Fits (au A p q) = (A < 65536) × Fits p × Fits q
+Fits (er A p q) = (A < 65536) × Fits p × Fits q
+Fits (ar A p q) = (A < 65536) × Fits p × Fits q
+
+-- a formula stands at place i of a table of nodes
+pub record Reads (ns : List ℕ) (i : ℕ) : Type 0 where
+  pub inside : i < length ns
+  pub few : length ns ≤ 1024
+  pub formula : Raw
+  pub at : At ns formula i
+  pub fits : Fits formula
+
+-- whichever formula stands at place i: the closure of its positive form (true), or of its negation's (false), was added
+abbrev pub Adds : List ℕ → ℕ → Bool → List ℕ → ℕ → List ℕ → Added → Type 0
+Adds ns i b tab n tab′ a = (p : Raw) → At ns p i → Answer tab n tab′ (closureOf (signed b p)) (signed b p) a
+
+-- the formulas ps stand at the places `roots`
+pub record Given (ns roots : List ℕ) (ps : List Raw) : Type 0 where
+  pub many : length ps ≡ length roots
+  pub at : (j : ℕ) → j < length roots → At ns (getD ps j zero) (getD roots j 0)

@@ -1,0 +1,47 @@
+-- Refusals computed from the bytes of sheets: document 01's drawn ones, and one for each number. Assumes nothing.
+use mathlib.Core.Path.{_≡_, refl}
+use mathlib.Core.List.{List, [], _∷_, _++_, map}
+use Prim.Native.Nat.{ℕ, zero, suc}
+use Rattle.ctl.specs.Modes.{modes, single}
+use Rattle.ctl.specs.Positive.{signed}
+use Rattle.ctl.specs.Expansion.{expand, parts}
+use Rattle.ctl.specs.Closure.{elemF, dedupe, orSpine, andSpine, exSpine, axSpine, spine, closureOf, closureAll, closure}
+use Rattle.ctl.specs.Lean.{bytesLt, printLt, symbolLt, isNext, lean}
+use Rattle.layout.specs.Text.{split, ended, same, begins, has}
+use Rattle.layout.specs.Layout.{anyLong, lengthWrong, byteWrong, startsRight, endsRight, layoutRight, nameRight, namesFrom, namesOf, kindOf, nameCount, kindRight, kindsFrom, kindsOf, textsOf, declare, declared}
+use Rattle.token.specs.Token.{skip, spaces, signOf, singleOf, pairOf, pairAt, tokenFrom, tokenAt}
+use Rattle.syntax.specs.Operators.{choiceOf}
+use Rattle.syntax.specs.Modes.{markedOf, withMode, modeAt, modesAt, bracesAt}
+use Rattle.syntax.specs.Parse.{letterLow, pathFrom, formulaAt, unitAt, lineAt}
+use Rattle.sheet.specs.Sheet.{trees}
+use Rattle.sheet.specs.Refusal.{conditions, grammarWrong, symbolsWrong, bracesWrong}
+use Rattle.reader.specs.Reader.{refusalWithin, refusalOf}
+use Rattle.reader.proofs.Texts.{bytes}
+
+-- one letter k more than n, joined
+abbrev joined : ℕ → List ℕ
+joined zero = bytes "k\n"
+joined (suc n) = bytes "k&" ++ joined n
+
+abbrev cases : List (List ℕ × ℕ)
+cases =
+    (bytes "k f\nmark field\ngoal EX{f}\n", 6)
+    ∷ (bytes "k f\nmark field\ngoal EX{k}k\n", 7)
+    ∷ (bytes "k f\nmark field\ngoal EX{}k\n", 8)
+    ∷ (bytes "k f\nmark field\ngoal " ++ joined 63, 0)
+    ∷ (bytes "k f\nmark field\ngoal " ++ joined 64, 9)
+    ∷ (bytes "a b c d e g h f\nmark mark mark mark mark mark mark field\ngoal a&b&c&d&e&g&h&EX{f}a\n", 0)
+    ∷ (bytes "a b c d e g h f\nmark mark mark mark mark mark mark field\ngoal a&b&c&d&e&g&h&EX{f}a&EX{f}b\n", 10)
+    ∷ (bytes "", 1)
+    ∷ (bytes "k f\nmark field\ngoal \t\n", 2)
+    ∷ (bytes "k f\nmark field\ngoal k", 3)
+    ∷ (bytes "k k\nmark field\ngoal k\n", 4)
+    ∷ (bytes "k f\nmark  field\ngoal k\n", 5)
+    ∷ (bytes "k f\nmark field\nall EX{}k\ngoal EX{\n", 6)
+    ∷ (bytes "k f\nmark field\nall EX{}k\ngoal z\n", 7)
+    ∷ (bytes "k f\nmark field\ngoal EX{f}k\n", 0)
+    ∷ []
+
+found : map (λ c. refusalOf (c .0)) cases ≡ map (λ c. c .1) cases
+unfolding split ended same begins has anyLong lengthWrong byteWrong startsRight endsRight layoutRight nameRight namesFrom namesOf kindOf nameCount kindRight kindsFrom kindsOf textsOf declare declared skip spaces signOf singleOf pairOf pairAt tokenFrom tokenAt choiceOf markedOf withMode modeAt modesAt bracesAt letterLow pathFrom formulaAt unitAt lineAt trees conditions grammarWrong symbolsWrong bracesWrong refusalWithin modes single signed expand parts elemF dedupe orSpine andSpine exSpine axSpine spine closureOf closureAll closure bytesLt printLt symbolLt isNext lean
+found = refl

@@ -1,0 +1,179 @@
+// Reading a sheet: from its bytes to symbols, kinds, formulas, closure and lean, or to one refusal.
+ghost use mathlib.Core.Path.{_≡_};
+ghost use mathlib.Core.Bool.{true};
+ghost use Prim.Native.Nat.{ℕ, _+_, _-_, _≤_, _<_};
+ghost use lib.ListN.{length, getD};
+ghost use Rattle.sheet.specs.Sheet.{goalUnder, goalStart};
+ghost use Rattle.reader.specs.Reader.{refusalBy, numberOf, refusalOf, blank, RootsAre, ReadIs};
+use closure::Closed;
+use closure::Gathered;
+
+// Why a sheet is refused; `Accepted` where it is not.
+pub enum Refusal {
+    Accepted,
+    Length,
+    Byte,
+    Layout,
+    Names,
+    Kinds,
+    Grammar,
+    Symbol,
+    Braces,
+    Closure,
+    Lean,
+}
+
+fn refusal_by(k: u8) -> Refusal
+    ensures { λ r. ⌜ r ≡ refusalBy k ⌝ }
+{
+    match k {
+        0 => Refusal::Accepted,
+        1 => Refusal::Length,
+        2 => Refusal::Byte,
+        3 => Refusal::Layout,
+        4 => Refusal::Names,
+        5 => Refusal::Kinds,
+        6 => Refusal::Grammar,
+        7 => Refusal::Symbol,
+        8 => Refusal::Braces,
+        9 => Refusal::Closure,
+        _ => Refusal::Lean,
+    }
+}
+
+// What a sheet says: its symbols' letters and kinds (1 mark, 2 name, 3 field); the members of its closure, each a word over those before it; the places among them of
+// its formulas in positive form, globals first, then the goal; and of its lean, in order.
+pub struct Reading {
+    pub refusal: Refusal,
+    pub symbols: usize,
+    pub letters: [u8; 8],
+    pub kinds: [u8; 8],
+    pub formulas: usize,
+    pub places: [usize; 5],
+    pub count: usize,
+    pub members: [u64; 128],
+    pub width: usize,
+    pub lean: [u8; 12],
+}
+
+fn refused(k: u8) -> Reading
+    ensures { λ r. ⌜ r ≡ blank (refusalBy k) ⌝ }
+{
+    let refusal = refusal_by(k);
+    Reading {
+        refusal,
+        symbols: 0,
+        letters: [0u8; 8],
+        kinds: [0u8; 8],
+        formulas: 0,
+        places: [0usize; 5],
+        count: 0,
+        members: [0u64; 128],
+        width: 0,
+        lean: [0u8; 12],
+    }
+}
+
+fn before(x: usize) -> usize
+    ensures { λ r. ⌜ r ≡ x - 1 ⌝ }
+{
+    if x == 0 { 0 } else { x - 1 }
+}
+
+// The places of formulas, from the places after them.
+fn roots_of(ends: [usize; 5]) -> [usize; 5]
+    ensures { λ r. ⌜ RootsAre ends r ⌝ }
+{
+    [
+        before(ends[0]),
+        before(ends[1]),
+        before(ends[2]),
+        before(ends[3]),
+        before(ends[4]),
+    ]
+}
+
+// The sheet, where its closure has at most `most` members and its lean at most `wide` places.
+fn read_within(s: &[u8], most: usize, wide: usize) -> Reading
+    requires { ⌜ (most ≤ 128) × (wide ≤ 12) ⌝ }
+    ensures { λ r. ⌜ ReadIs most wide (now (s .entry)) r ⌝ }
+{
+    let mut nodes = [0u64; 1024];
+    let sheet = sheet::read_sheet(s, &mut nodes);
+    let k = sheet.refusal;
+    if k != 0 {
+        return refused(k);
+    }
+    let n = sheet.lines;
+    let ends = sheet.ends;
+    let roots = roots_of(ends);
+    let mut members = [0u64; 128];
+    let mut places = [0usize; 5];
+    let Closed::Within(count) = closure::close(&nodes, &roots[..n], &mut members, &mut places)
+    else {
+        return refused(9);
+    };
+    if most < count {
+        return refused(9);
+    }
+    let symbols = sheet.symbols;
+    let letters = sheet.letters;
+    let mut lean = [0u8; 12];
+    let Gathered::Count(width) = closure::lean_of(&members, count, &letters[..symbols], &mut lean)
+    else {
+        return refused(10);
+    };
+    if wide < width {
+        return refused(10);
+    }
+    let kinds = sheet.kinds;
+    let refusal = Refusal::Accepted;
+    Reading {
+        refusal,
+        symbols,
+        letters,
+        kinds,
+        formulas: n,
+        places,
+        count,
+        members,
+        width,
+        lean,
+    }
+}
+
+// Every sheet, under document 01's limits.
+pub fn read(s: &[u8]) -> Reading
+    ensures { λ r. ⌜ ReadIs 64 8 (now (s .entry)) r ⌝ }
+{
+    read_within(s, 64, 8)
+}
+
+// The goal's text: a part of the sheet itself, empty with a refusal.
+pub fn goal_text(s: &[u8]) -> &[u8]
+    ensures { λ r. ⌜ now r ≡ goalUnder (now (s .entry)) (refusalOf (now (s .entry))) ⌝ }
+    ensures { λ r. ⌜ (r .ptr .0 ≡ s .entry .ptr .0) × (r .ptr .1 ≡ s .entry .ptr .1 + goalStart (now (s .entry)) (refusalOf (now (s .entry)))) ⌝ }
+{
+    let r = read(s);
+    let refusal = r.refusal;
+    sheet::goal_part(s, number(refusal))
+}
+
+// Document 01's number.
+pub fn number(r: Refusal) -> u8
+    ensures { λ n. ⌜ n ≡ numberOf r ⌝ }
+{
+    match r {
+        Refusal::Accepted => 0,
+        Refusal::Length => 1,
+        Refusal::Byte => 2,
+        Refusal::Layout => 3,
+        Refusal::Names => 4,
+        Refusal::Kinds => 5,
+        Refusal::Grammar => 6,
+        Refusal::Symbol => 7,
+        Refusal::Braces => 8,
+        Refusal::Closure => 9,
+        Refusal::Lean => 10,
+    }
+}
