@@ -7,7 +7,7 @@ use lib.ListN.{length, getD, set, length-set}
 use Rattle.wordset.specs.Word.{bit}
 use Rattle.wordset.specs.Words.{member, filled}
 use Rattle.wordset.proofs.WordLaws.{filled-step, filled-next, member-at}
-use Rattle.wordset.proofs.Answers.{Answers}
+use Rattle.wordset.specs.Answers.{Answers}
 
 -- the list l, from d, after i turns of w
 pub record Filling (g : ℕ → ℕ) (d : List ℕ) (w : ℕ) (l : List ℕ) (i : ℕ) : Type 0 where

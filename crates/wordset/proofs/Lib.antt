@@ -3,7 +3,7 @@ pub mod BelowLaws
 pub mod CompareLaws
 pub mod WordLaws
 pub mod PackLaws
-pub mod Answers
+pub mod AnswersLaws
 pub mod SetLaws
 pub mod Filling
 pub mod Scanning

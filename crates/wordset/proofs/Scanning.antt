@@ -13,7 +13,8 @@ use Rattle.wordset.specs.Below.{all, any, count, least}
 use Rattle.wordset.specs.Word.{bit}
 use Rattle.wordset.proofs.BelowLaws.{all-false, all-blocks, count-le, least-none, any-add, any-ext, any-false, any-more, count-add, count-ext, least-is, least-lt, least-holds, least-below, lt-or-le}
 use Rattle.wordset.proofs.BitLaws.{any-bit, ones-count, trailing-least}
-use Rattle.wordset.proofs.Answers.{Answers, equal-answers}
+use Rattle.wordset.specs.Answers.{Answers}
+use Rattle.wordset.proofs.AnswersLaws.{equal-answers}
 
 -- ---- a loop's invariant: all below i passed the test; none of the first i words has a number that does; n numbers of them do
 

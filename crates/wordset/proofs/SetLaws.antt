@@ -16,7 +16,8 @@ use Rattle.wordset.proofs.BelowLaws.{same-or}
 use Rattle.wordset.proofs.BitLaws.{bit-wordOf, wordOf-lt, wordOf-ext}
 use Rattle.wordset.proofs.WordLaws.{length-filled, drop-filled, filled-at, member-packed}
 use Rattle.wordset.proofs.PackLaws.{packWord, packed-ext, packed-again, packed-by}
-use Rattle.wordset.proofs.Answers.{Answers, answers-word, word-answers, one-answers, or-answers, minus-answers, same-place}
+use Rattle.wordset.specs.Answers.{Answers}
+use Rattle.wordset.proofs.AnswersLaws.{answers-word, word-answers, one-answers, or-answers, minus-answers, same-place}
 
 -- ---- one number more, one number less: f of whether a number is a member and whether it is j says if it is a member then
 

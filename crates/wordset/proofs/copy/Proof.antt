@@ -2,7 +2,7 @@
 use Prim.Native.Nat.{_-_}
 use Rattle.wordset.specs.Words.{member}
 use Rattle.wordset.proofs.PackLaws.{packWord}
-use Rattle.wordset.proofs.Answers.{answers-word, word-answers}
+use Rattle.wordset.proofs.AnswersLaws.{answers-word, word-answers}
 use Rattle.wordset.proofs.Filling.{Filling, begins, goes, ends}
 use borrow.Author.Needs.{needs}
 use Rattle.wordset.proofs.copy.Statement.{statement}

@@ -2,7 +2,7 @@
 use Prim.Native.Nat.{_-_}
 use native.Mathlib.Omega.{arith}
 use Rattle.wordset.specs.Words.{member}
-use Rattle.wordset.proofs.Answers.{word-answers}
+use Rattle.wordset.proofs.AnswersLaws.{word-answers}
 use Rattle.wordset.proofs.Scanning.{AllSoFar, all-start, agree, agree-on, agree-not, agree-end}
 use borrow.Author.Needs.{needs}
 use Rattle.wordset.proofs.equal.Statement.{statement}

@@ -4,7 +4,7 @@ use lib.ListN.{getD}
 use lib.Count.{trailingZeros}
 use Rattle.wordset.specs.Below.{least}
 use native.Mathlib.Omega.{arith}
-use Rattle.wordset.proofs.Answers.{word-answers}
+use Rattle.wordset.proofs.AnswersLaws.{word-answers}
 use Rattle.wordset.proofs.Scanning.{NoneSoFar, none-start, none-on, least-found, least-end}
 use Prim.Native.Nat.{ℕ, _+_, _*_, _-_, _<_}
 use Rattle.wordset.specs.Words.{member}

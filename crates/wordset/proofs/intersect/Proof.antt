@@ -3,7 +3,7 @@ use mathlib.Core.Bool.{_&&_}
 use Prim.Native.Nat.{_-_}
 use Rattle.wordset.specs.Words.{member}
 use Rattle.wordset.proofs.PackLaws.{packWord}
-use Rattle.wordset.proofs.Answers.{answers-word, word-answers, and-answers}
+use Rattle.wordset.proofs.AnswersLaws.{answers-word, word-answers, and-answers}
 use Rattle.wordset.proofs.Filling.{Filling, begins, goes, ends, next-answers}
 use borrow.Author.Needs.{needs}
 use Rattle.wordset.proofs.intersect.Statement.{statement}

@@ -1,7 +1,7 @@
 -- `intersects` meets its contract: no number of the first i words is in both sets. Assumes nothing.
 use mathlib.Core.Path.{sym}
 use native.Mathlib.Omega.{arith}
-use Rattle.wordset.proofs.Answers.{word-answers, and-answers}
+use Rattle.wordset.proofs.AnswersLaws.{word-answers, and-answers}
 use Rattle.wordset.proofs.Scanning.{NoneSoFar, none-start, none-on, any-found, none-end}
 use Prim.Native.Nat.{_-_}
 use mathlib.Core.Bool.{_&&_}

@@ -1,7 +1,7 @@
 -- `size` meets its contract: n counts the members in the first i words. Assumes nothing.
 use lib.ListN.{getD}
 use native.Mathlib.Omega.{arith}
-use Rattle.wordset.proofs.Answers.{word-answers}
+use Rattle.wordset.proofs.AnswersLaws.{word-answers}
 use Rattle.wordset.proofs.Scanning.{Counted, count-start, count-on, count-end, ones-fit, count-fits}
 use Prim.Native.Nat.{_-_, _^_, _<_}
 use Rattle.wordset.specs.Words.{member}

@@ -1,5 +1,4 @@
--- A word x at i that holds, of the 64 numbers from i * 64, exactly those that pass the test P: it answers for all of them. Which words do,
--- and that there is one only. Assumes nothing.
+-- Which words answer a test, and that there is one only. Assumes nothing.
 use mathlib.Core.Path.{_≡_, sym, ap, ap₂, _∙_}
 use mathlib.Core.Bool.{Bool, _&&_, _||_, not, Bool·beq}
 use mathlib.Core.List.{List}
@@ -11,6 +10,7 @@ use lib.Dec.{eqb}
 use lib.ListN.{getD}
 use lib.Pow.{pow-pos, ones-sub-lt}
 use borrow.Author.Tests.{eq-eqb, eqb-true}
+use Rattle.wordset.specs.Answers.{Answers}
 use Rattle.wordset.specs.Below.{all}
 use Rattle.wordset.specs.Word.{bit}
 use Rattle.wordset.specs.Words.{member}
@@ -19,10 +19,6 @@ use Rattle.wordset.proofs.BitLaws.{bit-and, bit-or, bit-minus, bit-pow,
 use Rattle.wordset.proofs.CompareLaws.{beq-true, beq-refl, both-ways}
 use Rattle.wordset.proofs.WordLaws.{member-at}
 use Rattle.wordset.proofs.PackLaws.{packWord}
-
-pub record Answers (P : ℕ → Bool) (i x : ℕ) : Type 0 where
-  pub small : x < 2 ^ 64
-  pub each : (b : ℕ) → b < 64 → P (i * 64 + b) ≡ bit x b
 
 pub answers-word : {P : ℕ → Bool} {i x : ℕ} → Answers P i x → x ≡ packWord P i
 answers-word {P} {i} {x} a = wordOf-is 64 (λ b. P (i * 64 + b)) x (a .small) (λ b h. sym (a .each b h))

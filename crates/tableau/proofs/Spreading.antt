@@ -1,0 +1,202 @@
+-- A set that grows by the types that have what an EU or an AU asks of them against it, until none is added. Assumes nothing.
+use mathlib.Core.Path.{ap₂, _≡_, refl, sym, ap, _∙_, subst}
+use mathlib.Core.Bool.{or-true, Bool, true, false, not, _&&_, Bool·beq, _||_}
+use mathlib.Core.List.{List}
+use mathlib.Core.Logic.{_⊎_, inl, inr, ⊎-elim}
+use Prim.Native.Nat.{ℕ, _*_, _≤_, _<_}
+use native.Mathlib.Omega.{arith}
+use lib.Dec.{T, T-not}
+use lib.ListN.{length}
+use Rattle.ctl.specs.Elimination as E
+use Rattle.ctl.proofs.BoolLaws.{and-both, not-or, false-T, T-cast, T-cast⁻, T-true, and-0, and-1, and-in, both-ways, imp-in, imp-out, not-absurd, or-0, or-out}
+use Rattle.ctl.proofs.GrowLaws.{reach-first, reach-next, reach-out}
+use Rattle.ctl.proofs.ListLaws.{all-in, all-out, any-in, any-out, elem-in, elem-out}
+use Rattle.ctl.specs.ClosedFamily.{oneOf}
+use Rattle.ctl.specs.Elimination.{reach}
+use Rattle.ctl.specs.Formula.{Form, and, ar, au, ax, er, eu, ex, fls, lit, nlit, or, tru}
+use Rattle.ctl.specs.Modes.{single}
+use Rattle.ctl.specs.Lists.{_∈_, elem}
+use Rattle.wordset.proofs.BelowLaws.{all-false, same-or, least-below, lt-or-le}
+use Rattle.wordset.proofs.CompareLaws.{count-fewer}
+use Rattle.wordset.proofs.PackLaws.{packWord}
+use Rattle.wordset.proofs.WordLaws.{member-past}
+use Rattle.wordset.specs.Below.{count, least}
+use Rattle.wordset.specs.Words.{join, member}
+use Rattle.closure.specs.Members.{forms}
+use Rattle.tableau.specs.Tables.{form, leftAt, rightAt, tagAt}
+use Rattle.tableau.specs.Blocks.{has}
+use Rattle.tableau.specs.Truths.{Tr, trueAt}
+use Rattle.tableau.specs.Families.{Follows, Good, Linked, Next, Ready, listOf, passes}
+use Rattle.tableau.proofs.ListWords.{join-member, list-in, list-out}
+use Rattle.tableau.proofs.MemberLaws.{form-tag, left-in, right-in}
+use Rattle.tableau.proofs.TruthLaws.{truth-bit}
+use Rattle.tableau.proofs.Sifting.{least-in}
+
+-- ---- what is asked against a set is had against a wider one
+
+module _ (ms ln : List ℕ) (U Y : List ℕ) (sub : (x : ℕ) → x ∈ U → x ∈ Y) where
+  next-more : (a t : ℕ) (p : Form) → T (Next ms ln U a p t) → T (Next ms ln Y a p t)
+  unfolding E.next
+  next-more a t p h = let r = any-out (λ u. Tr ms ln u p && Linked ms ln a t u) U h in any-in (λ u. Tr ms ln u p && Linked ms ln a t u) (sub (r .0) (r .1)) (r .2)
+
+  follow-more : (a t : ℕ) (f : Form) → T (Follows ms ln U a t f) → T (Follows ms ln Y a t f)
+  unfolding E.exNext
+  follow-more a t tru h = h
+  follow-more a t fls h = h
+  follow-more a t (lit k) h = h
+  follow-more a t (nlit k) h = h
+  follow-more a t (and p q) h = h
+  follow-more a t (or p q) h = h
+  follow-more a t (ex B v) h =
+      imp-in (oneOf a B) _ (λ o. imp-in (Tr ms ln t (ex B v)) _ (λ c. next-more B t v (imp-out (Tr ms ln t (ex B v)) _ (imp-out (oneOf a B) _ h o) c)))
+  follow-more a t (ax B v) h = h
+  follow-more a t (eu B p q) h = h
+  follow-more a t (au B p q) h = h
+  follow-more a t (er B p q) h = h
+  follow-more a t (ar B p q) h = h
+
+  pass-more : (t : ℕ) (f : Form) → T (passes ms ln U t f) → T (passes ms ln Y t f)
+  unfolding passes
+  pass-more t tru h = h
+  pass-more t fls h = h
+  pass-more t (lit k) h = h
+  pass-more t (nlit k) h = h
+  pass-more t (and p q) h = h
+  pass-more t (or p q) h = h
+  pass-more t (ex A p) h = imp-in (single A) _ (λ s. next-more A t p (imp-out (single A) _ h s))
+  pass-more t (ax A p) h = h
+  pass-more t (eu A p q) h = let r = any-out (Linked ms ln A t) U h in any-in (Linked ms ln A t) (sub (r .0) (r .1)) (r .2)
+  pass-more t (au A p q) h = all-in (Follows ms ln Y A t) (forms ms) (λ f m. follow-more A t f (all-out (Follows ms ln U A t) h m))
+  pass-more t (er A p q) h = h
+  pass-more t (ar A p q) h = h
+
+-- ---- the growing set
+
+-- what member i asks of t against U, and where the set begins
+unfoldable pub asked : List ℕ → List ℕ → ℕ → List ℕ → ℕ → Bool
+asked ms ln i U t = trueAt ms ln (leftAt ms i) t && passes ms ln U t (form ms i)
+
+unfoldable pub begun : List ℕ → List ℕ → ℕ → ℕ → Bool
+begun ms ln i t = trueAt ms ln (rightAt ms i) t
+
+-- the set that is looked for
+unfoldable pub Reached : List ℕ → List ℕ → ℕ → ℕ → List ℕ → List ℕ
+Reached ms ln w i src = reach (listOf w src) (asked ms ln i) (begun ms ln i)
+
+pub record Spreading (ms ln : List ℕ) (w i : ℕ) (src u₀ todo₀ v₀ u todo v : List ℕ) : Type 0 where
+  pub long : length u ≡ length u₀
+  pub long-todo : length todo ≡ length todo₀
+  pub long-v : length v ≡ length v₀
+  pub sound : (t : ℕ) → t < w * 64 → T (member u t) → t ∈ Reached ms ln w i src
+  pub base : (t : ℕ) → t ∈ listOf w src → T (begun ms ln i t) → T (member u t)
+
+module _ {ms ln : List ℕ} {w : ℕ} {tw lw : List ℕ} (r : Ready ms ln w tw lw) (i : ℕ) (h : i < length ms) (g : (8 ≤ tagAt ms i) × (tagAt ms i ≤ 9)) (src : List ℕ) where
+  kind : (tagAt ms i ≡ 8) ⊎ (tagAt ms i ≡ 9)
+  kind = ⊎-elim (λ e. inl e) (λ f. inr (let a = g .0 in let b = g .1 in omega arith)) (same-or (tagAt ms i) 8)
+
+  asked-more : (U Y : List ℕ) → ((x : ℕ) → x ∈ U → x ∈ Y) → (t : ℕ) → T (asked ms ln i U t) → T (asked ms ln i Y t)
+  unfolding asked
+  asked-more U Y sub t a =
+      and-in (trueAt ms ln (leftAt ms i) t) (passes ms ln Y t (form ms i)) (and-0 (trueAt ms ln (leftAt ms i) t) (passes ms ln U t (form ms i)) a)
+      (pass-more ms ln U Y sub t (form ms i) (and-1 (trueAt ms ln (leftAt ms i) t) (passes ms ln U t (form ms i)) a))
+
+  -- it is what an EU or an AU calls good
+  pub good-is : Reached ms ln w i src ≡ Good ms ln (listOf w src) (form ms i)
+  unfolding Reached asked begun E.good E.euTest E.auTest passes
+  good-is =
+      ⊎-elim
+      (λ e. ap (λ f. reach (listOf w src) (λ U t. trueAt ms ln (leftAt ms i) t && passes ms ln U t f) (trueAt ms ln (rightAt ms i))) (form-tag (r .table) i h 8 e)
+      ∙ sym (ap (Good ms ln (listOf w src)) (form-tag (r .table) i h 8 e)))
+      (λ e. ap (λ f. reach (listOf w src) (λ U t. trueAt ms ln (leftAt ms i) t && passes ms ln U t f) (trueAt ms ln (rightAt ms i))) (form-tag (r .table) i h 9 e)
+      ∙ sym (ap (Good ms ln (listOf w src)) (form-tag (r .table) i h 9 e)))
+      kind
+
+  -- the beginning: the family's types with the right operand
+  pub spread-start : (u todo v : List ℕ) (q : ℕ) → q ≡ rightAt ms i → ((t : ℕ) → t < w * 64 → member u t ≡ (member src t && has w tw q t)) → Spreading ms ln w i src u todo v u todo v
+  unfolding Reached begun
+  spread-start u todo v q e f = record {
+    long = refl;
+    long-todo = refl;
+    long-v = refl;
+    sound = λ t l m. (let a = T-cast (f t l) m in
+        reach-first (listOf w src) (asked ms ln i) (begun ms ln i) (list-in w src l (and-0 (member src t) (has w tw q t) a)) (T-cast (here t l) (and-1 (member src t) (has w tw q t) a)));
+    base = λ t m b. (let k = list-out w src m in T-cast⁻ (f t (k .0)) (and-in (member src t) (has w tw q t) (k .1) (T-cast⁻ (here t (k .0)) b)));
+  }
+    where
+      here : (t : ℕ) → t < w * 64 → has w tw q t ≡ trueAt ms ln (rightAt ms i) t
+      here t l = ap (λ j. has w tw j t) e ∙ truth-bit (r .truths) (rightAt ms i) (right-in (r .table) i h (let a = g .0 in omega arith)) t l
+
+  module _ {u₀ todo₀ v₀ u todo v : List ℕ} (s : Spreading ms ln w i src u₀ todo₀ v₀ u todo v) where
+    -- those that are looked at in a turn, and those that are found
+    module _ (p : ℕ) (e : p ≡ leftAt ms i) (a b v′ : List ℕ) (fa : (t : ℕ) → t < w * 64 → member a t ≡ (member src t && has w tw p t)) (fb : (t : ℕ) → t < w * 64 → member b t ≡ (member a t && not (member u t)))
+        (fv : (t : ℕ) → t < w * 64 → member v′ t ≡ (member b t && passes ms ln (listOf w u) t (form ms i))) where
+      here : (t : ℕ) → t < w * 64 → has w tw p t ≡ trueAt ms ln (leftAt ms i) t
+      here t l = ap (λ j. has w tw j t) e ∙ truth-bit (r .truths) (leftAt ms i) (left-in (r .table) i h (let a = g .0 in omega arith)) t l
+
+      found : (t : ℕ) → t < w * 64 → T (member v′ t) → (t ∈ listOf w src) × T (asked ms ln i (listOf w u) t) × (T (member u t) → ⊥)
+      unfolding asked
+      found t l m =
+          let x = T-cast (fv t l) m in
+          let y = T-cast (fb t l) (and-0 (member b t) _ x) in
+          let z = T-cast (fa t l) (and-0 (member a t) (not (member u t)) y) in
+          (list-in w src l (and-0 (member src t) (has w tw p t) z), and-in (trueAt ms ln (leftAt ms i) t) (passes ms ln (listOf w u) t (form ms i)) (T-cast (here t l) (and-1 (member src t) (has w tw p t) z)) (and-1 (member b t) _ x), T-not (member u t) (and-1 (member a t) (not (member u t)) y))
+
+      inside : (x : ℕ) → x ∈ listOf w u → x ∈ Reached ms ln w i src
+      inside x m = let k = list-out w u m in s .sound x (k .0) (k .1)
+
+      pub spread-on : (u′ todo′ : List ℕ) → w ≤ length u → length todo′ ≡ length todo₀ → length v′ ≡ length v₀ → length u′ ≡ length u → u′ ≡ join w u v′ → Spreading ms ln w i src u₀ todo₀ v₀ u′ todo′ v′
+      unfolding Reached
+      spread-on u′ todo′ k lt lv lu q = record {
+        long = lu ∙ s .long;
+        long-todo = lt;
+        long-v = lv;
+        sound = λ t l m. ⊎-elim (λ x. s .sound t l x) (λ x. (let f = found t l x in
+            reach-next (listOf w src) (asked ms ln i) (begun ms ln i) (f .0) (asked-more (listOf w u) (Reached ms ln w i src) inside t (f .1)))) (or-out (member u t) (member v′ t) (T-cast (both t l) m));
+        base = λ t m b. (let k = list-out w src m in T-cast⁻ (both t (k .0)) (or-0 (member u t) (member v′ t) (s .base t m b)));
+      }
+        where
+          both : (t : ℕ) → t < w * 64 → member u′ t ≡ (member u t || member v′ t)
+          both t l = join-member u v′ u′ w k q t l
+
+      -- it grew
+      pub spread-less : (u′ : List ℕ) (t : ℕ) → w ≤ length u → u′ ≡ join w u v′ → t ≡ least (w * 64) (member v′) → (t ≡ w * 64 → ⊥) → count (w * 64) (λ j. not (member u′ j)) < count (w * 64) (λ j. not (member u j))
+      spread-less u′ t k q el f =
+          let one = least-in w v′ t el f in
+          count-fewer (λ j. not (member u j)) (λ j. not (member u′ j)) (w * 64) within
+          (all-false (λ j. Bool·beq (not (member u j)) (not (member u′ j))) (w * 64) t (one .0)
+          (ap₂ (λ x y. Bool·beq (not x) (not y)) (false-T (member u t) (found t (one .0) (T-true _ (one .1)) .2)) (both t (one .0) ∙ ap (λ x. member u t || x) (one .1) ∙ or-true (member u t))))
+        where
+          both : (t : ℕ) → t < w * 64 → member u′ t ≡ (member u t || member v′ t)
+          both t l = join-member u v′ u′ w k q t l
+
+          within : (j : ℕ) → not (member u′ j) ≡ true → not (member u j) ≡ true
+          within j e =
+              ⊎-elim (λ l. and-both (not (member u j)) _ (sym (not-or (member u j) (member v′ j)) ∙ ap not (sym (both j l)) ∙ e) .0)
+              (λ l. ap not (sym (ap (λ x. member x j) q ∙ member-past (packWord (λ j. member u j || member v′ j)) u w j l)) ∙ e) (lt-or-le j (w * 64))
+
+      -- nothing is found: the set is whole
+      pub spread-end : w * 64 ≡ least (w * 64) (member v′) → (t : ℕ) → t < w * 64 → member u t ≡ elem t (Good ms ln (listOf w src) (form ms i))
+      spread-end el t l = both-ways _ _ (λ m. elem-in (s .sound t l m)) (λ m. list-out w u (into (elem-out t (Reached ms ln w i src) m)) .1) ∙ ap (elem t) good-is
+        where
+          none : (t : ℕ) → t < w * 64 → member v′ t ≡ false
+          none t l = least-below (w * 64) (member v′) t (omega arith)
+
+          -- a type that has what is asked is in the set already
+          closed : (Y : List ℕ) (t : ℕ) → t ∈ listOf w src → ((x : ℕ) → x ∈ Y → x ∈ listOf w u) → T (asked ms ln i Y t) → t ∈ listOf w u
+          closed Y t m sub ask =
+              let k = list-out w src m in
+              list-in w u (k .0) (not-absurd (member u t) (λ n. (let b′ = asked-more Y (listOf w u) sub t ask in
+              subst T (none t (k .0)) (T-cast⁻ (fv t (k .0)) (and-in (member b t) (passes ms ln (listOf w u) t (form ms i))
+              (T-cast⁻ (fb t (k .0)) (and-in (member a t) (not (member u t)) (T-cast⁻ (fa t (k .0)) (and-in (member src t) (has w tw p t) (k .1) (T-cast⁻ (here t (k .0)) (take-0 t b′)))) n))
+              (take-1 t b′))))))
+            where
+              take-0 : (t : ℕ) → T (asked ms ln i (listOf w u) t) → T (trueAt ms ln (leftAt ms i) t)
+              take-0 t ask = and-0 (trueAt ms ln (leftAt ms i) t) (passes ms ln (listOf w u) t (form ms i)) (unfold asked in ask)
+
+              take-1 : (t : ℕ) → T (asked ms ln i (listOf w u) t) → T (passes ms ln (listOf w u) t (form ms i))
+              take-1 t ask = and-1 (trueAt ms ln (leftAt ms i) t) (passes ms ln (listOf w u) t (form ms i)) (unfold asked in ask)
+
+          into : {t : ℕ} → t ∈ Reached ms ln w i src → t ∈ listOf w u
+          into {t} m =
+              reach-out (listOf w src) (asked ms ln i) (λ n t. t ∈ listOf w u) (λ n t x. x) (λ n Y t m sub a. closed Y t m sub a) (begun ms ln i)
+              (λ t m b. (let k = list-out w src m in list-in w u (k .0) (s .base t m b))) t (unfold Reached in m) .1

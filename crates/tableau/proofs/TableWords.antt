@@ -1,0 +1,64 @@
+-- One naming by words: what the stores hold after the start and after the rounds, as lists. Assumes nothing.
+use mathlib.Core.Path.{_≡_, ap, _∙_}
+use mathlib.Core.Bool.{_&&_}
+use mathlib.Core.List.{List}
+use Prim.Native.Nat.{ℕ, _*_, _≤_, _<_}
+use native.Mathlib.Omega.{arith}
+use lib.ListN.{length}
+use Rattle.ctl.proofs.EliminationLaws.{survivors-ascend, survivors-closed}
+use Rattle.ctl.proofs.ListLaws.{Ascending, ascending-count, ascending-keep, below-out, keep-out, keep-same}
+use Rattle.ctl.specs.Lists.{_∈_, below, elem}
+use Rattle.wordset.proofs.PackLaws.{packed-twice}
+use Rattle.wordset.specs.Below.{count}
+use Rattle.wordset.specs.Words.{member, packed}
+use Rattle.tableau.specs.declared.table.Counts.{Counts}
+use Rattle.closure.specs.Members.{forms}
+use Rattle.tableau.specs.Truths.{Tr}
+use Rattle.tableau.specs.Links.{Lk}
+use Rattle.tableau.specs.Families.{Rounds, Survivors, listOf}
+use Rattle.tableau.specs.Starts.{obeysBy, startList}
+use Rattle.tableau.specs.Tabled.{Tabled}
+use Rattle.tableau.proofs.ListWords.{count-list, held, list-packed}
+
+-- ---- survivors
+
+-- a store into which the survivors of some start types were packed
+pub survivors-list : (ms ln : List ℕ) (w : ℕ) (start d x : List ℕ) → Ascending 0 start → ((t : ℕ) → t ∈ start → t < w * 64) → w ≤ length d
+    → x ≡ packed w (λ t. elem t (Survivors ms ln start)) d → listOf w x ≡ Survivors ms ln start
+survivors-list ms ln w start d x a b h e =
+    list-packed w d x (Survivors ms ln start) h (survivors-ascend (forms ms) (Tr ms ln) (Lk ms ln) start a)
+    (λ t m. b t (survivors-closed (forms ms) (Tr ms ln) (Lk ms ln) start .within t m)) e
+
+-- ---- start types
+
+module _ (w : ℕ) (base names others : List ℕ) (r : ℕ) where
+  pub start-ascend : Ascending 0 (startList w base names others r)
+  unfolding startList
+  start-ascend = ascending-keep (λ t. member base t && obeysBy names others r t) 0 (below (w * 64)) (ascending-count 0 (w * 64))
+
+  pub start-below : (t : ℕ) → t ∈ startList w base names others r → t < w * 64
+  unfolding startList
+  start-below t m = below-out (w * 64) (keep-out (λ t. member base t && obeysBy names others r t) (below (w * 64)) m .0)
+
+  -- x is the first store after the start
+  module _ (d x : List ℕ) (h : w ≤ length d) (n : length x ≡ length d) (e : x ≡ packed w (λ t. member base t && obeysBy names others r t) d) where
+    start-list : listOf w x ≡ startList w base names others r
+    unfolding listOf startList
+    start-list =
+        keep-same (member x) (λ t. member base t && obeysBy names others r t) (below (w * 64))
+        (λ t m. held (λ t. member base t && obeysBy names others r t) d x w h e t (below-out (w * 64) m))
+
+    -- y and z are the stores after the rounds, and c has the counts
+    pub table-is : (ms ln second y z : List ℕ) (c : Counts) → c .start ≡ count (w * 64) (member x) → c .left ≡ count (w * 64) (member y) → c .rounds ≡ Rounds ms ln (listOf w x)
+        → y ≡ packed w (λ t. elem t (Survivors ms ln (listOf w x))) x → z ≡ packed w (λ t. elem t (Survivors ms ln (listOf w x))) second
+        → Tabled (startList w base names others r) (Survivors ms ln (startList w base names others r)) (Rounds ms ln (startList w base names others r)) w d second y z c
+    table-is ms ln second y z c es el er ey ez =
+        let q = start-list in
+        let y-is = ey ∙ ap (λ s. packed w (λ t. elem t (Survivors ms ln s)) x) q in
+        record {
+          started = es ∙ count-list w x ∙ ap length q;
+          left-over = el ∙ count-list w y ∙ ap length (survivors-list ms ln w (startList w base names others r) x y start-ascend start-below (omega arith) y-is);
+          rounds-done = er ∙ ap (Rounds ms ln) q;
+          first-holds = packed-twice (λ t. member base t && obeysBy names others r t) (λ t. elem t (Survivors ms ln (startList w base names others r))) d x y w h e y-is;
+          second-holds = ez ∙ ap (λ s. packed w (λ t. elem t (Survivors ms ln s)) second) q;
+        }
