@@ -1,0 +1,110 @@
+// Judging: the namings in their order, until one has a surviving type with the goal. Assumes nothing.
+ghost use mathlib.Core.Path.{_≡_};
+ghost use Prim.Native.Nat.{_≤_, _<_};
+ghost use lib.ListN.{length};
+ghost use Rattle.tableau.specs.Families.{Ready};
+ghost use Rattle.judge.specs.Judged.{goalsAt, Room, Places, Judged};
+ghost use Rattle.tableau.specs.Goals.{firstOf};
+use tableau::goal::Found;
+use tableau::goal::goal_type;
+use tableau::table::table;
+
+pub enum Verdict {
+    Open { naming: u64, least: usize },
+    Unsatisfiable,
+}
+
+// The least surviving type of naming r that has the goal. The five stores are room to work in.
+fn try_naming(
+    ms: &[u64],
+    ln: &[u8],
+    w: usize,
+    tw: &[u64],
+    lw: &[u64],
+    names: &[u8],
+    others: &[u8],
+    base: &[u64],
+    goal: usize,
+    r: u64,
+    first: &mut [u64],
+    second: &mut [u64],
+    u: &mut [u64],
+    todo: &mut [u64],
+    v: &mut [u64],
+) -> Found
+    requires { ⌜ Ready (now ms) (now ln) w (now tw) (now lw) ⌝ }
+    requires { ⌜ Room w (now first) (now second) (now u) (now todo) (now v) ⌝ }
+    requires { ⌜ Places (now names) (now others) × ((w ≤ length (now base)) × (goal < length (now ms))) ⌝ }
+    ensures { λ a. ⌜ a ≡ firstOf (goalsAt (now (ms .entry)) (now (ln .entry)) w (now (base .entry)) (now (names .entry)) (now (others .entry)) goal r) ⌝ }
+{
+    table(
+        ms,
+        ln,
+        w,
+        tw,
+        lw,
+        names,
+        others,
+        r,
+        base,
+        first,
+        second,
+        u,
+        todo,
+        v,
+    );
+    goal_type(ms, ln, w, tw, goal, first)
+}
+
+// The least naming under which a surviving type has the goal, with the least such type.
+pub fn judge(
+    ms: &[u64],
+    ln: &[u8],
+    w: usize,
+    tw: &[u64],
+    lw: &[u64],
+    names: &[u8],
+    others: &[u8],
+    base: &[u64],
+    goal: usize,
+    namings: u64,
+    first: &mut [u64],
+    second: &mut [u64],
+    u: &mut [u64],
+    todo: &mut [u64],
+    v: &mut [u64],
+) -> Verdict
+    requires { ⌜ Ready (now ms) (now ln) w (now tw) (now lw) ⌝ }
+    requires { ⌜ Room w (now first) (now second) (now u) (now todo) (now v) ⌝ }
+    requires { ⌜ Places (now names) (now others) × ((w ≤ length (now base)) × (goal < length (now ms))) ⌝ }
+    ensures { λ r. ⌜ Judged (goalsAt (now (ms .entry)) (now (ln .entry)) w (now (base .entry)) (now (names .entry)) (now (others .entry)) goal) namings r ⌝ }
+{
+    let mut r = 0;
+    while r < namings {
+        let found = try_naming(
+            ms,
+            ln,
+            w,
+            tw,
+            lw,
+            names,
+            others,
+            base,
+            goal,
+            r,
+            first,
+            second,
+            u,
+            todo,
+            v,
+        );
+        if let Found::At(t) = found {
+            return Verdict::Open {
+                naming: r,
+                least: t,
+            };
+        }
+        r += 1;
+    }
+    Verdict::Unsatisfiable
+}

@@ -1,0 +1,267 @@
+-- What the tableau asks of a member table, a lean, the globals and the goal, of those that the reader gives. Assumes nothing.
+use mathlib.Core.Path.{_≡_, refl, sym, ap, _∙_, subst}
+use mathlib.Core.Bool.{true, _&&_, _||_}
+use mathlib.Core.List.{List, [], _∷_, _++_, map, map-append, List·Memᴰ·head, List·Memᴰ·tail}
+use Prim.Native.Nat.{ℕ, zero, suc, _-_, _≤_, _<_}
+use native.Mathlib.Omega.{arith}
+use native.Mathlib.Decide.{decLe}
+use lib.ListN.{length, getD, drop, length-append, length-map, length-drop, List·getD-append, List·getD-eq-default}
+use lib.Seq.{ext-getD, getD-at, length-take-le}
+use lib.Dec.{T, eqb, leb}
+use borrow.Author.Tests.{leb-true}
+use Rattle.ctl.specs.Lists.{_∈_}
+use Rattle.ctl.specs.Formula.{Form, tru}
+use Rattle.ctl.specs.Equality.{tag, num}
+use Rattle.ctl.specs.Modes.{single}
+use Rattle.ctl.specs.Raw.{Raw}
+use Rattle.ctl.specs.Positive.{positive}
+use Rattle.ctl.specs.Closure.{Unique, more, closure}
+use Rattle.ctl.specs.Lean.{isLetter, isNext, lean}
+use Rattle.ctl.specs.Tableau.{Tableau, tableauOf, namePlaces, otherPlaces}
+use Rattle.ctl.specs.Demand3.{sheetTableau}
+use Rattle.ctl.proofs.BoolLaws.{and-both, and-make, or-1, T-true}
+use Rattle.ctl.proofs.LeanOrder.{lean-members}
+use Rattle.layout.specs.Layout.{lines, endsRight, startsRight, layoutRight}
+use Rattle.layout.proofs.FormulaTexts.{texts-length}
+use Rattle.sheet.specs.Refusal.{readRefusal}
+use Rattle.sheet.specs.Reading.{formulas, globalsOf, goalOf, letterOf}
+use Rattle.sheet.proofs.RefusalLaws.{right-layout}
+use Rattle.sheet.proofs.SizeLaws.{formulas-many}
+use Rattle.closure.specs.Members.{Canon, Members, c-and, c-ar, c-au, c-ax, c-er, c-eu, c-ex, c-fls, c-lit, c-nlit, c-or, c-tru, forms, leftW, tagW, wordOf}
+use Rattle.closure.proofs.MemberLaws.{canon-parts, forms-length, member, word-left, word-tag}
+use Rattle.closure.proofs.LeanLaws.{form-word}
+use Rattle.tableau.specs.Tables.{Leans, Table, argAt, form, leanForms, tagAt}
+use Rattle.tableau.proofs.TableauLaws.{Matches}
+use Rattle.reader.specs.declared.Reading.{Reading}
+use Rattle.reader.specs.Reader as R
+use Rattle.reader.specs.Reader.{Says}
+use Rattle.prepare.specs.Prepared.{leanOf, tableOf, tableauIn}
+
+-- ---- lists by their places
+
+form-in : (l : List Form) (i : ℕ) → i < length l → getD l i tru ∈ l
+form-in [] i h = absurd (omega arith)
+form-in (p ∷ l) zero h = List·Memᴰ·head refl
+form-in (p ∷ l) (suc i) h = List·Memᴰ·tail (form-in l i (omega arith))
+
+form-place : (l : List Form) {p : Form} → p ∈ l → (i : ℕ) × (i < length l) × (getD l i tru ≡ p)
+form-place l (List·Memᴰ·head {xs = r} e) = (0, omega arith, sym e)
+form-place l (List·Memᴰ·tail {xs = r} m) = let h = form-place r m in (suc (h .0), (let k = h .1 in omega arith), h .2)
+
+unique-at : (l : List Form) → Unique l → (i j : ℕ) → i < length l → j < length l → getD l i tru ≡ getD l j tru → i ≡ j
+unique-at [] u i j h k e = absurd (omega arith)
+unique-at (p ∷ l) u zero zero h k e = refl
+unique-at (p ∷ l) (more f u) zero (suc j) h k e = absurd (f (subst (λ q. q ∈ l) (sym e) (form-in l j (omega arith))))
+unique-at (p ∷ l) (more f u) (suc i) zero h k e = absurd (f (subst (λ q. q ∈ l) e (form-in l i (omega arith))))
+unique-at (p ∷ l) (more f u) (suc i) (suc j) h k e = ap suc (unique-at l u i j (omega arith) (omega arith) e)
+
+map-at : (f : ℕ → Form) (l : List ℕ) (k : ℕ) → k < length l → getD (map f l) k tru ≡ f (getD l k 0)
+map-at f [] k h = absurd (omega arith)
+map-at f (x ∷ l) zero h = refl
+map-at f (x ∷ l) (suc k) h = map-at f l k (omega arith)
+
+-- ---- a table of members
+
+leaf-left : (t a : ℕ) → t < 16 → a < 65536 → leftW (wordOf t a 0 0) ≡ 0
+leaf-left t a h k = word-left t a 0 0 h k (omega arith) (omega arith)
+
+not-bare : (t a l r : ℕ) → 4 ≤ t → t < 16 → a < 65536 → l < 256 → r < 256 → tagW (wordOf t a l r) < 4 → leftW (wordOf t a l r) ≡ 0
+not-bare t a l r g h k i j b = let e = word-tag t a l r h k i j in absurd (omega arith)
+
+canon-bare : {n w : ℕ} → n ≤ 256 → Canon n w → tagW w < 4 → leftW w ≡ 0
+canon-bare s c-tru b = leaf-left 0 0 (omega arith) (omega arith)
+canon-bare s c-fls b = leaf-left 1 0 (omega arith) (omega arith)
+canon-bare s (c-lit {k} h) b = leaf-left 2 k (omega arith) h
+canon-bare s (c-nlit {k} h) b = leaf-left 3 k (omega arith) h
+canon-bare s (c-and {l} {r} i j) b = not-bare 4 0 l r (omega arith) (omega arith) (omega arith) (omega arith) (omega arith) b
+canon-bare s (c-or {l} {r} i j) b = not-bare 5 0 l r (omega arith) (omega arith) (omega arith) (omega arith) (omega arith) b
+canon-bare s (c-ex {A} {l} a i) b = not-bare 6 A l 0 (omega arith) (omega arith) a (omega arith) (omega arith) b
+canon-bare s (c-ax {A} {l} a i) b = not-bare 7 A l 0 (omega arith) (omega arith) a (omega arith) (omega arith) b
+canon-bare s (c-eu {A} {l} {r} a i j) b = not-bare 8 A l r (omega arith) (omega arith) a (omega arith) (omega arith) b
+canon-bare s (c-au {A} {l} {r} a i j) b = not-bare 9 A l r (omega arith) (omega arith) a (omega arith) (omega arith) b
+canon-bare s (c-er {A} {l} {r} a i j) b = not-bare 10 A l r (omega arith) (omega arith) a (omega arith) (omega arith) b
+canon-bare s (c-ar {A} {l} {r} a i j) b = not-bare 11 A l r (omega arith) (omega arith) a (omega arith) (omega arith) b
+
+module _ {ws : List ℕ} (ms : Members ws) where
+  pub members-table : Table ws
+  unfolding form
+  members-table = record {
+    tags = λ i h. canon-parts (few i h) (ms .canon i h) .tag;
+    operands = λ i h g. (let p = canon-parts (few i h) (ms .canon i h) in (p .left g, p .right g));
+    bare = λ i h b. canon-bare (few i h) (ms .canon i h) b;
+    distinct = λ i j h k e. let n = forms-length ws in unique-at (forms ws) (ms .unique) i j (omega arith) (omega arith) e;
+  }
+    where
+      few : (i : ℕ) → i < length ws → i ≤ 256
+      few i h = let f = ms .few in omega arith
+
+  -- a member's tag and number are its word's
+  pub member-word : (i : ℕ) → i < length ws → (tag (form ws i) ≡ tagAt ws i) × (num (form ws i) ≡ argAt ws i)
+  unfolding form
+  member-word i h =
+      let r = form-word (forms ws) (let f = ms .few in omega arith) (ms .canon i h) in
+      (ap tag (member ws ms i h) ∙ r .0, ap num (member ws ms i h) ∙ r .1)
+
+-- ---- globals and goal
+
+globals-goal : (l : List Raw) → 0 < length l → globalsOf l ++ (goalOf l ∷ []) ≡ l
+unfolding globalsOf goalOf
+globals-goal [] h = absurd (omega arith)
+globals-goal (p ∷ []) h = refl
+globals-goal (p ∷ q ∷ r) h = ap (λ k. p ∷ k) (globals-goal (q ∷ r) (omega arith))
+
+-- a sheet that is read has a formula
+pub formulas-some : (s : List ℕ) → readRefusal s ≡ 0 → 0 < length (formulas s)
+unfolding layoutRight
+formulas-some s z =
+    let a = and-both (endsRight s && leb 3 (length (lines s)) && leb (length (lines s)) 7) (startsRight (drop 2 (lines s))) (right-layout s z) in
+    let b = and-both (endsRight s && leb 3 (length (lines s))) (leb (length (lines s)) 7) (a .0) in
+    let c = leb-true 3 (length (lines s)) (and-both (endsRight s) (leb 3 (length (lines s))) (b .0) .1) in
+    let d = texts-length (drop 2 (lines s)) in
+    let e = length-drop 2 (lines s) in
+    let f = formulas-many s z in
+    omega arith
+
+module _ (s : List ℕ) (z : readRefusal s ≡ 0) where
+  pub forms-split : map positive (globalsOf (formulas s)) ++ (positive (goalOf (formulas s)) ∷ []) ≡ R.forms s
+  forms-split =
+      sym (map-append positive (globalsOf (formulas s)) (goalOf (formulas s) ∷ []))
+      ∙ ap (map positive) (globals-goal (formulas s) (formulas-some s z))
+
+  globals-length : suc (length (map positive (globalsOf (formulas s)))) ≡ length (R.forms s)
+  globals-length = let a = length-append (map positive (globalsOf (formulas s))) (positive (goalOf (formulas s)) ∷ []) in let b = ap length forms-split in omega arith
+
+  pub formulas-suc : suc (length (globalsOf (formulas s))) ≡ length (formulas s)
+  formulas-suc = let a = globals-length in let b = length-map (globalsOf (formulas s)) positive in let c = length-map (formulas s) positive in omega arith
+
+-- ---- the lean
+
+-- the formula 1 is no place of a lean
+lean-not-tru : (letter : ℕ → ℕ) (cl : List Form) → tru ∈ lean letter cl → ⊥
+unfolding isNext
+lean-not-tru letter cl m = lean-members letter cl tru .0 m .1
+
+ex-next : (p : Form) → tag p ≡ 6 → single (num p) ≡ true → T (isNext p)
+unfolding isNext
+ex-next p e h = T-true _ (and-make (eqb (tag p) 6 || eqb (tag p) 7) (single (num p)) (six (tag p) e) h)
+  where
+    six : (k : ℕ) → k ≡ 6 → eqb k 6 || eqb k 7 ≡ true
+    six k e = subst (λ i. eqb i 6 || eqb i 7 ≡ true) (sym e) refl
+
+-- ---- what a sheet says
+
+module _ (s : List ℕ) (r : Reading) (x : Says s r) where
+  abbrev ms : List ℕ
+  ms = tableOf r
+
+  abbrev ln : List ℕ
+  ln = leanOf r
+
+  abbrev S : Tableau
+  S = tableauIn s
+
+  pub table-length : length ms ≡ r .count
+  table-length = length-take-le (r .count) (r .members) (x .tabled .room)
+
+  pub table : Table ms
+  table = members-table (x .tabled .members)
+
+  lean-forms : map (form ms) ln ≡ R.places s
+  unfolding form
+  lean-forms = x .lean-are
+
+  pub lean-length : length ln ≡ r .width
+  lean-length = sym (length-map ln (form ms)) ∙ ap length lean-forms ∙ sym (x .lean-many)
+
+  -- lean place k is the lean's formula k
+  pub lean-form : (k : ℕ) → k < length ln → form ms (getD ln k 0) ≡ getD (R.places s) k tru
+  lean-form k h = sym (map-at (form ms) ln k h) ∙ ap (λ l. getD l k tru) lean-forms
+
+  pub lean-inside : (k : ℕ) → k < length ln → getD ln k 0 < length ms
+  unfolding form
+  lean-inside k h = elim (decLe (length ms) (getD ln k 0)) [ yes a ↦ absurd (out a) | no a ↦ omega arith ]
+    where
+      out : length ms ≤ getD ln k 0 → ⊥
+      out a =
+          let e = List·getD-eq-default (forms ms) tru {n = getD ln k 0} (let n = forms-length ms in omega arith) in
+          let w = lean-length in
+          let v = x .lean-many in
+          lean-not-tru (letterOf s) (R.members s) (subst (λ p. p ∈ R.places s) (sym (lean-form k h) ∙ e) (form-in (R.places s) k (omega arith)))
+
+  pub leans : r .width ≤ 60 → Leans ms ln
+  leans h = record { short = (let n = lean-length in omega arith); inside = lean-inside }
+
+  -- each EX over one mode has a place in the lean
+  pub ex-places : (i : ℕ) → i < length ms → tagAt ms i ≡ 6 → single (argAt ms i) ≡ true → (k : ℕ) × (k < length ln) × (getD ln k 0 ≡ i)
+  unfolding form
+  ex-places i h g a =
+      let w = member-word (x .tabled .members) i h in
+      let n = ex-next (form ms i) (w .0 ∙ g) (ap single (w .1) ∙ a) in
+      let c : form ms i ∈ R.members s = x .tabled .only (form ms i) (form-in (forms ms) i (let e = forms-length ms in omega arith)) in
+      let p = form-place (R.places s) (lean-members (letterOf s) (R.members s) (form ms i) .1 (c, or-1 (isLetter (form ms i)) (isNext (form ms i)) n)) in
+      let k : p .0 < length ln = (let b = p .1 in let e = lean-length in let v = x .lean-many in omega arith) in
+      (p .0, k, table .distinct (getD ln (p .0) 0) i (lean-inside (p .0) k) h (lean-form (p .0) k ∙ p .2))
+
+  -- ---- the sheet's tableau
+
+  module _ (z : readRefusal s ≡ 0) where
+    tableau-closure : S .cl ≡ R.members s
+    unfolding sheetTableau tableauOf
+    tableau-closure = ap closure (forms-split s z)
+
+    pub tableau-lean : S .ln ≡ R.places s
+    unfolding sheetTableau tableauOf
+    tableau-lean = ap (λ l. lean (letterOf s) (closure l)) (forms-split s z)
+
+    tableau-globals : S .globals ≡ map positive (globalsOf (formulas s))
+    unfolding sheetTableau tableauOf
+    tableau-globals = refl
+
+    pub matches : (globals : List ℕ) → map (form ms) globals ≡ map positive (globalsOf (formulas s)) → Matches S ms ln globals (namePlaces S) (otherPlaces S)
+    unfolding leanForms
+    matches globals e = record {
+      closure-in = λ p m. x .tabled .has p (subst (λ l. p ∈ l) tableau-closure m);
+      closure-has = λ p m. subst (λ l. p ∈ l) (sym tableau-closure) (x .tabled .only p m);
+      lean = tableau-lean ∙ sym lean-forms;
+      globals-are = tableau-globals ∙ sym e;
+      names-are = refl;
+      others-are = refl;
+    }
+
+    -- ---- the places of the formulas
+
+    formulas-many-suc : suc (length (map positive (globalsOf (formulas s)))) ≡ r .formulas
+    formulas-many-suc = let a = formulas-suc s z in let b = length-map (globalsOf (formulas s)) positive in let c = x .many in omega arith
+
+    formula-inside : (j : ℕ) → j < r .formulas → getD (r .places) j 0 < length ms
+    formula-inside j h = let n = table-length in let l = length-map (formulas s) positive in let m = x .many in let b = x .placed .below j (omega arith) in omega arith
+
+    formula-form : (j : ℕ) → j < r .formulas → form ms (getD (r .places) j 0) ≡ getD (map positive (globalsOf (formulas s)) ++ (positive (goalOf (formulas s)) ∷ [])) j tru
+    unfolding form
+    formula-form j h = x .placed .at j (let l = length-map (formulas s) positive in let m = x .many in omega arith) ∙ ap (λ l. getD l j tru) (sym (forms-split s z))
+
+    pub goal : form ms (getD (r .places) (r .formulas - 1) 0) ≡ positive (goalOf (formulas s))
+    goal =
+        let n = formulas-many-suc in
+        formula-form (r .formulas - 1) (omega arith)
+        ∙ getD-at (map positive (globalsOf (formulas s))) (positive (goalOf (formulas s))) [] tru (r .formulas - 1) (omega arith)
+
+    pub goal-inside : getD (r .places) (r .formulas - 1) 0 < length ms
+    goal-inside = let n = formulas-many-suc in formula-inside (r .formulas - 1) (omega arith)
+
+    pub global : (j : ℕ) → j < r .formulas - 1 → form ms (getD (r .places) j 0) ≡ getD (map positive (globalsOf (formulas s))) j tru
+    global j h =
+        let n = formulas-many-suc in
+        formula-form j (omega arith)
+        ∙ List·getD-append (map positive (globalsOf (formulas s))) (positive (goalOf (formulas s)) ∷ []) tru j (omega arith)
+
+    pub global-inside : (j : ℕ) → j < r .formulas - 1 → getD (r .places) j 0 < length ms
+    global-inside j h = formula-inside j (omega arith)
+
+    -- the globals' places, as a list
+    pub globals-map : (globals : List ℕ) → length globals ≡ r .formulas - 1 → ((j : ℕ) → j < r .formulas - 1 → getD globals j 0 ≡ getD (r .places) j 0) → map (form ms) globals ≡ map positive (globalsOf (formulas s))
+    globals-map globals e f =
+        let n = formulas-many-suc in
+        let m = length-map globals (form ms) in
+        ext-getD tru (map (form ms) globals) (map positive (globalsOf (formulas s))) (omega arith)
+        (λ j h. map-at (form ms) globals j (omega arith) ∙ ap (form ms) (f j (omega arith)) ∙ global j (omega arith))

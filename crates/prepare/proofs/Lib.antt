@@ -1,0 +1,5 @@
+pub mod Bridge
+pub mod SplitLaws
+pub mod SplitBridge
+pub mod WidthLaws
+pub mod NameCount

@@ -1,0 +1,152 @@
+-- What `start_words` asks of the places of a sheet that was read: at most two are names, and all are below the lean's width. Assumes nothing.
+use mathlib.Core.Path.{_≡_, refl, sym, ap, _∙_, subst}
+use mathlib.Core.Bool.{Bool, true, false, cond, not, _&&_, _||_}
+use mathlib.Core.List.{List, [], _∷_, _++_, map}
+use Prim.Native.Nat.{ℕ, zero, suc, _≤_, _<_}
+use native.Mathlib.Omega.{arith}
+use native.Mathlib.Decide.{decLe}
+use lib.Dec.{T, eqb, ltb, eqb→eq}
+use lib.ListN.{length, getD, length-map, List·getD-eq-default}
+use borrow.Author.Tests.{ltb-true}
+use Rattle.ctl.specs.Lists.{_∈_, below, countFrom, keep, put}
+use Rattle.ctl.specs.Formula.{Form, tru, fls, lit, nlit, and, or, ex, ax, eu, au, er, ar}
+use Rattle.ctl.specs.Equality.{tag, num}
+use Rattle.ctl.specs.Tableau.{Tableau, isName, namePlaces, otherPlaces, tableauOf}
+use Rattle.ctl.specs.Closure.{Unique, closure}
+use Rattle.ctl.specs.Positive.{positive}
+use Rattle.ctl.specs.Demand3.{sheetTableau}
+use Rattle.ctl.proofs.BoolLaws.{and-0, and-1, and-both}
+use Rattle.ctl.proofs.ClosureLaws.{closure-unique}
+use Rattle.ctl.proofs.LeanOrder.{lean-unique}
+use Rattle.ctl.proofs.ListLaws.{below-in, below-out, keep-in, keep-length, keep-out, length-count, map-in}
+use Rattle.ctl.proofs.SortLaws.{keep-unique}
+use Rattle.closure.proofs.CloseLaws.{unique-length}
+use Rattle.layout.specs.Layout.{kindOf, kindRight, kinds, kindsFrom, kindsOf, nameCount}
+use Rattle.sheet.specs.Reading.{formulas, globalsOf, goalOf, letterOf}
+use Rattle.prepare.specs.Prepared.{tableauIn}
+
+-- ---- at most two kinds are names
+
+count-snoc : (ks : List ℕ) (k : ℕ) → nameCount (ks ++ (k ∷ [])) ≡ cond (eqb k 2) (suc (nameCount ks)) (nameCount ks)
+unfolding nameCount
+count-snoc [] k = refl
+count-snoc (j ∷ ks) k = go (eqb j 2) (eqb k 2) (count-snoc ks k)
+  where
+    go : (a b : Bool) → nameCount (ks ++ (k ∷ [])) ≡ cond b (suc (nameCount ks)) (nameCount ks)
+        → cond a (suc (nameCount (ks ++ (k ∷ [])))) (nameCount (ks ++ (k ∷ []))) ≡ cond b (suc (cond a (suc (nameCount ks)) (nameCount ks))) (cond a (suc (nameCount ks)) (nameCount ks))
+    go true true e = ap suc e
+    go true false e = ap suc e
+    go false true e = e
+    go false false e = e
+
+right-two : (seen : List ℕ) (k : ℕ) → nameCount seen ≤ 2 → kindRight seen k ≡ true → nameCount (seen ++ (k ∷ [])) ≤ 2
+unfolding kindRight
+right-two seen k h e = subst (λ n. n ≤ 2) (sym (count-snoc seen k)) (go (eqb k 2) (and-both (ltb 0 k && ltb (length seen) 8) (not (eqb k 2) || ltb (nameCount seen) 2) e .1))
+  where
+    go : (b : Bool) → not b || ltb (nameCount seen) 2 ≡ true → cond b (suc (nameCount seen)) (nameCount seen) ≤ 2
+    go true q = let l = ltb-true (nameCount seen) 2 q in omega arith
+    go false q = h
+
+no-names : nameCount [] ≤ 2
+unfolding nameCount
+no-names = omega arith
+
+from-two : (ws : List (List ℕ)) (seen : List ℕ) → nameCount seen ≤ 2 → nameCount (kindsFrom seen ws) ≤ 2
+unfolding kindsFrom
+from-two [] seen h = h
+from-two (w ∷ ws) seen h = go (kindRight seen (kindOf w)) (λ e. from-two ws (seen ++ (kindOf w ∷ [])) (right-two seen (kindOf w) h e))
+  where
+    go : (b : Bool) → (b ≡ true → nameCount (kindsFrom (seen ++ (kindOf w ∷ [])) ws) ≤ 2) → nameCount (cond b (kindsFrom (seen ++ (kindOf w ∷ [])) ws) []) ≤ 2
+    go true f = f refl
+    go false f = no-names
+
+pub kinds-two : (s : List ℕ) → nameCount (kinds s) ≤ 2
+unfolding kindsOf
+kinds-two s = from-two _ [] no-names
+
+-- ---- places that pass a test, and elements that do
+
+module _ {A : Type 0} where
+  put-length : (b : Bool) (x : A) (l : List A) → length (put b x l) ≡ cond b (suc (length l)) (length l)
+  put-length true x l = refl
+  put-length false x l = refl
+
+keep-shift : (q : ℕ → Bool) (a n : ℕ) → length (keep q (countFrom (suc a) n)) ≡ length (keep (λ i. q (suc i)) (countFrom a n))
+keep-shift q a zero = refl
+keep-shift q a (suc n) = put-length (q (suc a)) (suc a) (keep q (countFrom (suc (suc a)) n)) ∙ ap (λ m. cond (q (suc a)) (suc m) m) (keep-shift q (suc a) n) ∙ sym (put-length (q (suc a)) a (keep (λ i. q (suc i)) (countFrom (suc a) n)))
+
+keep-places : {A : Type 0} (P : A → Bool) (d : A) (l : List A) → length (keep (λ i. P (getD l i d)) (below (length l))) ≡ length (keep P l)
+keep-places P d [] = refl
+keep-places P d (x ∷ l) =
+    put-length (P x) 0 (keep (λ i. P (getD (x ∷ l) i d)) (countFrom 1 (length l)))
+    ∙ ap (λ m. cond (P x) (suc m) m) (keep-shift (λ i. P (getD (x ∷ l) i d)) 0 (length l) ∙ keep-places P d l)
+    ∙ sym (put-length (P x) x (keep P l))
+
+count-keep : (ks : List ℕ) → nameCount ks ≡ length (keep (λ k. eqb k 2) ks)
+unfolding nameCount
+count-keep [] = refl
+count-keep (k ∷ ks) = ap (λ m. cond (eqb k 2) (suc m) m) (count-keep ks) ∙ sym (put-length (eqb k 2) k (keep (λ k. eqb k 2) ks))
+
+-- ---- the names of a lean
+
+is-lit : (p : Form) → tag p ≡ 2 → p ≡ lit (num p)
+is-lit tru e = absurd (omega arith)
+is-lit fls e = absurd (omega arith)
+is-lit (lit k) e = refl
+is-lit (nlit k) e = absurd (omega arith)
+is-lit (and p q) e = absurd (omega arith)
+is-lit (or p q) e = absurd (omega arith)
+is-lit (ex A p) e = absurd (omega arith)
+is-lit (ax A p) e = absurd (omega arith)
+is-lit (eu A p q) e = absurd (omega arith)
+is-lit (au A p q) e = absurd (omega arith)
+is-lit (er A p q) e = absurd (omega arith)
+is-lit (ar A p q) e = absurd (omega arith)
+
+-- a symbol of kind 2 is among the kinds
+kind-within : (ks : List ℕ) (k : ℕ) → T (eqb (getD ks k 0) 2) → k < length ks
+kind-within ks k t = elim (decLe (length ks) k) [ yes h ↦ absurd (subst (λ i. T (eqb i 2)) (List·getD-eq-default ks 0 h) t) | no h ↦ omega arith ]
+
+module _ (s : List ℕ) where
+  abbrev S : Tableau
+  S = tableauIn s
+
+  abbrev symbols : List ℕ
+  symbols = keep (λ k. eqb (getD (kinds s) k 0) 2) (below (length (kinds s)))
+
+  name-in : (p : Form) → T (isName S p) → p ∈ map lit symbols
+  unfolding sheetTableau tableauOf
+  name-in p t =
+      let a = and-0 (eqb (tag p) 2) (eqb (getD (kinds s) (num p) 0) 2) t in
+      let b = and-1 (eqb (tag p) 2) (eqb (getD (kinds s) (num p) 0) 2) t in
+      subst (λ q. q ∈ map lit symbols) (sym (is-lit p (eqb→eq (tag p) 2 a))) (map-in lit (keep-in (λ k. eqb (getD (kinds s) k 0) 2) (below-in (kind-within (kinds s) (num p) b)) b))
+
+  lean-once : Unique (S .ln)
+  unfolding sheetTableau tableauOf
+  lean-once =
+      let l = map positive (globalsOf (formulas s)) ++ (positive (goalOf (formulas s)) ∷ []) in
+      lean-unique (letterOf s) (closure l) (closure-unique l)
+
+  pub names-two : length (namePlaces S) ≤ 2
+  unfolding namePlaces
+  names-two =
+      let a = keep-places (isName S) tru (S .ln) in
+      let b = unique-length (keep (isName S) (S .ln)) (map lit symbols) (keep-unique (isName S) (S .ln) lean-once) (λ p m. name-in p (keep-out (isName S) (S .ln) m .1)) in
+      let c = length-map symbols lit in
+      let d = keep-places (λ k. eqb k 2) 0 (kinds s) in
+      let e = count-keep (kinds s) in
+      let f = kinds-two s in
+      omega arith
+
+  -- how many there are of each, and each is below the lean's width
+  pub others-few : length (otherPlaces S) ≤ length (S .ln)
+  unfolding otherPlaces
+  others-few = let a = keep-length (λ i. not (isName S (getD (S .ln) i tru))) (below (length (S .ln))) in let b = length-count 0 (length (S .ln)) in omega arith
+
+  pub name-below : (k : ℕ) → k ∈ namePlaces S → k < length (S .ln)
+  unfolding namePlaces
+  name-below k m = below-out (length (S .ln)) (keep-out (λ i. isName S (getD (S .ln) i tru)) (below (length (S .ln))) m .0)
+
+  pub other-below : (k : ℕ) → k ∈ otherPlaces S → k < length (S .ln)
+  unfolding otherPlaces
+  other-below k m = below-out (length (S .ln)) (keep-out (λ i. not (isName S (getD (S .ln) i tru))) (below (length (S .ln))) m .0)

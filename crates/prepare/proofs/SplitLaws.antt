@@ -1,0 +1,107 @@
+-- Splitting the lean's places: what one turn adds to a store, and what the stores hold at the end. Assumes nothing.
+use mathlib.Core.Path.{_≡_, refl, sym, ap, ap₂, _∙_}
+use mathlib.Core.Bool.{Bool, true, false, cond, not, _&&_}
+use mathlib.Core.List.{List, [], _∷_, _++_, append-nil}
+use Prim.Native.Nat.{ℕ, zero, suc, _+_, _≤_, _<_}
+use native.Mathlib.Omega.{arith}
+use lib.ListN.{length, getD, set, drop, length-append, length-set, List·getD-eq-default}
+use lib.Seq.{append-snoc, drop-cons, set-at}
+use lib.Dec.{eqb}
+use borrow.Author.Tests.{eq-eqb, ne-eqb}
+use Rattle.ctl.specs.Lists.{keep, below, countFrom, put}
+use Rattle.closure.specs.Members.{argW, tagW}
+use Rattle.prepare.specs.Split.{nameAt, nameWord, namesIn, othersIn, SplitIs}
+
+-- ---- the numbers below k + 1 that pass a test
+
+count-snoc : (a n : ℕ) → countFrom a (suc n) ≡ countFrom a n ++ ((a + n) ∷ [])
+count-snoc a zero = ap (λ i. i ∷ []) (omega arith)
+count-snoc a (suc n) = ap (λ l. a ∷ l) (count-snoc (suc a) n ∙ ap (λ i. countFrom (suc a) n ++ (i ∷ [])) (omega arith))
+
+keep-snoc : (P : ℕ → Bool) (l : List ℕ) (x : ℕ) → keep P (l ++ (x ∷ [])) ≡ keep P l ++ put (P x) x []
+keep-snoc P [] x = refl
+keep-snoc P (y ∷ l) x = go (P y) (keep-snoc P l x)
+  where
+    go : (b : Bool) → keep P (l ++ (x ∷ [])) ≡ keep P l ++ put (P x) x [] → put b y (keep P (l ++ (x ∷ []))) ≡ put b y (keep P l) ++ put (P x) x []
+    go true e = ap (λ k. y ∷ k) e
+    go false e = e
+
+keep-next : (P : ℕ → Bool) (k : ℕ) (b : Bool) → b ≡ P k → keep P (below (k + 1)) ≡ keep P (below k) ++ put b k []
+keep-next P k b e =
+    ap (λ i. keep P (below i)) (let h : k + 1 ≡ suc k = omega arith in h)
+    ∙ ap (keep P) (count-snoc 0 k ∙ ap (λ i. below k ++ (i ∷ [])) (let h : 0 + k ≡ k = omega arith in h))
+    ∙ keep-snoc P (below k) k
+    ∙ ap (λ c. keep P (below k) ++ put c k []) (sym e)
+
+-- ---- a store after k turns of `most`
+
+pub record Parted (P : ℕ → Bool) (d₀ : List ℕ) (most k : ℕ) (d : List ℕ) (n : ℕ) : Type 0 where
+  pub within : k ≤ most
+  pub few : n ≤ k
+  pub same : length d ≡ length d₀
+  pub many : n ≡ length (keep P (below k))
+  pub are : d ≡ keep P (below k) ++ drop n d₀
+
+module _ {P : ℕ → Bool} {d₀ : List ℕ} {most : ℕ} where
+  pub parted-first : Parted P d₀ most 0 d₀ 0
+  parted-first = record { within = omega arith; few = omega arith; same = refl; many = refl; are = sym (drop-zero d₀) }
+    where
+      drop-zero : (l : List ℕ) → drop 0 l ≡ l
+      drop-zero [] = refl
+      drop-zero (x ∷ l) = refl
+
+  pub parted-next : {k n : ℕ} {d : List ℕ} → Parted P d₀ most k d n → k < most → most ≤ length d₀ → (b : Bool) → b ≡ P k → {n′ : ℕ} {d′ : List ℕ} → n′ ≡ cond b (n + 1) n → d′ ≡ cond b (set d n k) d → Parted P d₀ most (k + 1) d′ n′
+  parted-next {k} {n} {d} x h room true e {n′} {d′} en ed =
+      let K = keep P (below k) in
+      let m : length (keep P (below k)) ≡ n = sym (x .many) in
+      let f = x .few in
+      let s : suc n ≡ n′ = omega arith in
+      record {
+        within = omega arith;
+        few = omega arith;
+        same = ap length ed ∙ length-set d n k ∙ x .same;
+        many = sym (ap length (keep-next P k true e) ∙ length-append K (k ∷ []) ∙ (omega arith));
+        are = ed ∙ ap (λ l. set l n k) (x .are ∙ ap (λ l. K ++ l) (drop-cons d₀ n 0 (omega arith))) ∙ set-at K (getD d₀ n 0) (drop (suc n) d₀) k n m
+            ∙ sym (append-snoc K k (drop (suc n) d₀)) ∙ ap₂ (λ a i. a ++ drop i d₀) (sym (keep-next P k true e)) s;
+      }
+  parted-next {k} {n} {d} x h room false e {n′} {d′} en ed =
+      let K = keep P (below k) in
+      let f = x .few in
+      let q : keep P (below (k + 1)) ≡ keep P (below k) = keep-next P k false e ∙ append-nil (keep P (below k)) in
+      record {
+        within = omega arith;
+        few = omega arith;
+        same = ap length ed ∙ x .same;
+        many = en ∙ x .many ∙ ap length (sym q);
+        are = ed ∙ x .are ∙ ap₂ (λ a i. a ++ drop i d₀) (sym q) (sym en);
+      }
+
+-- ---- at the end
+
+module _ {ms ln kinds names others names′ others′ : List ℕ} {k n m : ℕ} where
+  pub split-done : Parted (nameAt ms ln kinds) names (length ln) k names′ n → Parted (λ i. not (nameAt ms ln kinds i)) others (length ln) k others′ m → length ln ≤ k
+      → SplitIs ms ln kinds names others names′ others′ (record { names = n; others = m })
+  unfolding namesIn othersIn
+  split-done x y h =
+      let w = x .within in
+      let e : k ≡ length ln = omega arith in
+      record {
+        names-many = x .many ∙ ap (λ i. length (keep (nameAt ms ln kinds) (below i))) e;
+        names-are = x .are ∙ ap (λ i. keep (nameAt ms ln kinds) (below i) ++ drop n names) e;
+        others-many = y .many ∙ ap (λ i. length (keep (λ j. not (nameAt ms ln kinds j)) (below i))) e;
+        others-are = y .are ∙ ap (λ i. keep (λ j. not (nameAt ms ln kinds j)) (below i) ++ drop m others) e;
+      }
+
+-- ---- a member's word
+
+module _ (kinds : List ℕ) (x : ℕ) where
+  pub name-other : (tagW x ≡ 2 → ⊥) → false ≡ nameWord kinds x
+  unfolding nameWord
+  name-other f = sym (ap (λ b. b && eqb (getD kinds (argW x) 0) 2) (ne-eqb (tagW x) 2 f))
+
+  pub name-kind : tagW x ≡ 2 → eqb (getD kinds (argW x) 0) 2 ≡ nameWord kinds x
+  unfolding nameWord
+  name-kind e = sym (ap (λ b. b && eqb (getD kinds (argW x) 0) 2) (eq-eqb (tagW x) 2 e))
+
+  pub name-beyond : tagW x ≡ 2 → length kinds ≤ argW x → false ≡ nameWord kinds x
+  name-beyond e h = sym (ap (λ k. eqb k 2) (List·getD-eq-default kinds 0 h)) ∙ name-kind e
