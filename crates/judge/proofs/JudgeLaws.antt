@@ -22,7 +22,8 @@ use Rattle.tableau.specs.Goals.{firstOf}
 use Rattle.tableau.specs.declared.goal.Found.{Found}
 use Rattle.tableau.specs.declared.goal.Found.the-variants.{At, Nothing}
 use Rattle.tableau.proofs.TableWords.{start-ascend, start-below, survivors-list}
-use Rattle.tableau.proofs.TableauLaws.{Matches, surviving-types}
+use Rattle.tableau.specs.Matches.{Matches}
+use Rattle.tableau.proofs.TableauLaws.{surviving-types}
 use Rattle.judge.specs.Judged.{goalsAt, Room, Judged, opens, closes, verdictOf}
 use Rattle.judge.specs.declared.Verdict.{Verdict}
 use Rattle.judge.specs.declared.Verdict.the-variants.{Open, Unsatisfiable}

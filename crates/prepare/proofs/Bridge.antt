@@ -31,7 +31,7 @@ use Rattle.closure.specs.Members.{Canon, Members, c-and, c-ar, c-au, c-ax, c-er
 use Rattle.closure.proofs.MemberLaws.{canon-parts, forms-length, member, word-left, word-tag}
 use Rattle.closure.proofs.LeanLaws.{form-word}
 use Rattle.tableau.specs.Tables.{Leans, Table, argAt, form, leanForms, tagAt}
-use Rattle.tableau.proofs.TableauLaws.{Matches}
+use Rattle.tableau.specs.Matches.{Matches}
 use Rattle.reader.specs.declared.Reading.{Reading}
 use Rattle.reader.specs.Reader as R
 use Rattle.reader.specs.Reader.{Says}

@@ -18,7 +18,7 @@ use Rattle.layout.specs.Layout.{kinds}
 use Rattle.sheet.specs.Refusal.{readRefusal}
 use Rattle.sheet.specs.Reading.{formulas, globalsOf}
 use Rattle.tableau.specs.Tables.{form}
-use Rattle.tableau.proofs.TableauLaws.{Matches}
+use Rattle.tableau.specs.Matches.{Matches}
 use Rattle.reader.specs.declared.Reading.{Reading}
 use Rattle.reader.specs.Reader.{Says}
 use Rattle.prepare.specs.declared.Split.{Split}

@@ -15,11 +15,10 @@ use Rattle.ctl.proofs.BoolLaws.{T-cast, T-cast⁻, T-true, and-0, and-1, and-in
 use Rattle.ctl.proofs.ListLaws.{ascending-count, ascending-keep, ascending-same, below-in, below-out, keep-in, keep-out}
 use Rattle.ctl.proofs.NumberLaws.{number-lt, number-place, same-places}
 use Rattle.ctl.proofs.OrderLaws.{rounds-over, survivors-over}
-use Rattle.ctl.specs.Formula.{Form}
 use Rattle.ctl.specs.Links.{linkBy}
 use Rattle.ctl.specs.Lists.{elem, _∈_, below, imp, keep}
 use Rattle.ctl.specs.Numbers.{number}
-use Rattle.ctl.specs.Tableau.{Tableau, namePlaces, obeys, obeysFrom, otherPlaces, pack, startTypes, starts}
+use Rattle.ctl.specs.Tableau.{Tableau, obeys, obeysFrom, otherPlaces, pack, startTypes, starts}
 use Rattle.ctl.specs.Types.{inType, truth}
 use Rattle.ctl.specs.Verdict.{goalTypes, roundsOf, survivingTypes}
 use Rattle.wordset.proofs.BelowLaws.{all-elim, all-ext, all-intro}
@@ -35,6 +34,7 @@ use Rattle.tableau.specs.Families.{Rounds, Survivors, listOf}
 use Rattle.tableau.specs.Starts.{fitsSet, makesAll, nameSet, obeysBy, placeFits, startList}
 use Rattle.tableau.specs.Goals.{firstOf}
 use Rattle.tableau.specs.Tabled.{Tabled}
+use Rattle.tableau.specs.Matches.{Matches}
 use Rattle.tableau.proofs.ListWords.{all-front, all-list, held}
 use Rattle.tableau.proofs.TableWords.{start-ascend, start-below, survivors-list}
 
@@ -87,15 +87,6 @@ module _ (S : Tableau) (others : List ℕ) (e : otherPlaces S ≡ others) (t : �
       ∙ obeys-from vs (r / 2 ^ length others) ∙ ap (λ o. obeysFrom S vs (r / 2 ^ length o) t) (sym e))
 
 -- ---- the tableau
-
--- The table has the closure's members, in any order. The lean, the globals and the places of names and of others are the tableau's
-pub record Matches (S : Tableau) (ms ln globals names others : List ℕ) : Type 0 where
-  pub closure-in : (p : Form) → p ∈ S .cl → p ∈ forms ms
-  pub closure-has : (p : Form) → p ∈ forms ms → p ∈ S .cl
-  pub lean : S .ln ≡ leanForms ms ln
-  pub globals-are : S .globals ≡ map (form ms) globals
-  pub names-are : namePlaces S ≡ names
-  pub others-are : otherPlaces S ≡ others
 
 lean-length : (ms ln : List ℕ) → length (leanForms ms ln) ≡ length ln
 unfolding leanForms

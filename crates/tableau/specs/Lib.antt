@@ -6,3 +6,4 @@ pub mod Families
 pub mod Starts
 pub mod Goals
 pub mod Tabled
+pub mod Matches

@@ -1,0 +1,243 @@
+-- What computing a frame asks at each call, and that what the calls give is the sheet's tableau. Assumes nothing.
+use mathlib.Core.Path.{_≡_, refl, sym, ap, ap₂, _∙_, subst}
+use mathlib.Core.List.{List, [], _∷_, map, List·Memᴰ·head, List·Memᴰ·tail}
+use Prim.Native.Nat.{ℕ, zero, suc, _-_, _*_, _^_, _≤_, _<_}
+use native.Mathlib.Omega.{arith}
+use lib.ListN.{length, getD, take}
+use lib.Seq.{getD-take, length-take-le}
+use Rattle.ctl.specs.Lists.{_∈_}
+use Rattle.ctl.specs.Positive.{positive}
+use Rattle.ctl.specs.Tableau.{Tableau, namePlaces, namings, otherPlaces}
+use Rattle.wordset.specs.Words.{packed}
+use Rattle.sheet.specs.Refusal.{readRefusal}
+use Rattle.sheet.specs.Reading.{formulas, goalOf, globalsOf}
+use Rattle.tableau.specs.Tables.{Leans, Table, form}
+use Rattle.tableau.specs.Truths.{Truths}
+use Rattle.tableau.specs.Links.{Rows}
+use Rattle.tableau.specs.Starts.{makesAll}
+use Rattle.reader.specs.declared.Reading.{Reading}
+use Rattle.reader.specs.Reader.{Says}
+use Rattle.prepare.specs.declared.Split.{Split}
+use Rattle.prepare.specs.Prepared.{kindsOf, leanOf, tableOf, tableauIn}
+use Rattle.prepare.specs.Split.{Splits, SplitIs}
+use Rattle.prepare.specs.Width.{WordsFor}
+use Rattle.prepare.proofs.Bridge.{ex-places, formulas-some, global-inside, globals-map, goal, goal-inside, lean-length, leans, table, table-length, tableau-lean}
+use Rattle.prepare.proofs.SplitBridge.{names-are, names-held, others-are, others-held, split-matches, splits}
+use Rattle.prepare.proofs.NameCount.{name-below, names-two, other-below, others-few}
+use Rattle.judge.specs.Judged.{Places}
+use Rattle.frame.specs.Framed.{Framed, FramedAs, Frames, Given}
+
+-- ---- lists and numbers
+
+place-in : (l : List ℕ) (i : ℕ) → i < length l → getD l i 0 ∈ l
+place-in [] i h = absurd (omega arith)
+place-in (p ∷ l) zero h = List·Memᴰ·head refl
+place-in (p ∷ l) (suc i) h = List·Memᴰ·tail (place-in l i (omega arith))
+
+-- at most 4 words for each of at most 128 members
+truth-room : (n w m : ℕ) → n ≤ 128 → w ≤ 4 → 512 ≤ m → n * w ≤ m
+truth-room n zero m h k r = omega arith
+truth-room n (suc zero) m h k r = omega arith
+truth-room n (suc (suc zero)) m h k r = omega arith
+truth-room n (suc (suc (suc zero))) m h k r = omega arith
+truth-room n (suc (suc (suc (suc zero)))) m h k r = omega arith
+truth-room n (suc (suc (suc (suc (suc w))))) m h k r = absurd (omega arith)
+
+link-room : (w m : ℕ) → w ≤ 4 → 16384 ≤ m → w * 1024 * w ≤ m
+link-room zero m k r = omega arith
+link-room (suc zero) m k r = omega arith
+link-room (suc (suc zero)) m k r = omega arith
+link-room (suc (suc (suc zero))) m k r = omega arith
+link-room (suc (suc (suc (suc zero)))) m k r = omega arith
+link-room (suc (suc (suc (suc (suc w))))) m k r = absurd (omega arith)
+
+-- ---- of a reading itself
+
+module _ (s : List ℕ) (r : Reading) (x : Says s r) (z : readRefusal s ≡ 0) where
+  abbrev ms : List ℕ
+  ms = tableOf r
+
+  abbrev ln : List ℕ
+  ln = leanOf r
+
+  abbrev ks : List ℕ
+  ks = kindsOf r
+
+  abbrev ps : List ℕ
+  ps = take (r .formulas) (r .places)
+
+  abbrev S : Tableau
+  S = tableauIn s
+
+  formulas-any : 0 < r .formulas
+  formulas-any = let a = formulas-some s z in let b = x .many in omega arith
+
+  place-is : (j : ℕ) → j < r .formulas → getD ps j 0 ≡ getD (r .places) j 0
+  place-is j h = getD-take (r .formulas) (r .places) j 0 h
+
+  tableau-width : length (S .ln) ≡ length ln
+  tableau-width = ap length (tableau-lean s r x z) ∙ sym (x .lean-many) ∙ sym (lean-length s r x)
+
+  module _ (many : length ps ≡ r .formulas) where
+    last-is : getD ps (length ps - 1) 0 ≡ getD (r .places) (r .formulas - 1) 0
+    last-is = ap (λ n. getD ps (n - 1) 0) many ∙ place-is (r .formulas - 1) (let a = formulas-any in omega arith)
+
+    before-inside : (j : ℕ) → j < length ps - 1 → getD ps j 0 < length ms
+    before-inside j h = subst (λ i. i < length ms) (sym (place-is j (omega arith))) (global-inside s r x z j (omega arith))
+
+    last-inside : getD ps (length ps - 1) 0 < length ms
+    last-inside = subst (λ i. i < length ms) (sym last-is) (goal-inside s r x z)
+
+    last-form : form ms (getD ps (length ps - 1) 0) ≡ positive (goalOf (formulas s))
+    last-form = ap (form ms) last-is ∙ goal s r x z
+
+    before-map : (globals : List ℕ) → globals ≡ take (length ps - 1) ps → map (form ms) globals ≡ map positive (globalsOf (formulas s))
+    before-map globals e =
+        let n = length-take-le (length ps - 1) ps (omega arith) in
+        let m = ap length e in
+        globals-map s r x z globals (omega arith)
+        (λ j h. ap (λ l. getD l j 0) e ∙ getD-take (length ps - 1) ps j 0 (omega arith) ∙ place-is j (omega arith))
+
+  module _ (narrow : length ln ≤ 8) {names others names′ others′ : List ℕ} {q : Split} (y : SplitIs ms ln ks names others names′ others′ q) where
+    name-count : q .names ≡ length (namePlaces S)
+    name-count = y .names-many ∙ ap length (names-are s r x z)
+
+    other-count : q .others ≡ length (otherPlaces S)
+    other-count = y .others-many ∙ ap length (others-are s r x z)
+
+    split-few : (q .names ≤ 2) × (q .others ≤ 8)
+    split-few = let a = name-count in let b = other-count in let c = names-two s in let d = others-few s in let e = tableau-width in (omega arith, omega arith)
+
+    namings-is : 2 ^ (q .others * q .names) ≡ namings S
+    unfolding namings
+    namings-is = ap₂ (λ a b. 2 ^ (a * b)) other-count name-count
+
+    tableau-places : Places (namePlaces S) (otherPlaces S)
+    tableau-places =
+        let e = tableau-width in
+        let f = others-few s in
+        record {
+          names-few = names-two s;
+          others-few = omega arith;
+          names-in = λ i h. (let b = name-below s (getD (namePlaces S) i 0) (place-in (namePlaces S) i h) in omega arith);
+          others-in = λ i h. (let b = other-below s (getD (otherPlaces S) i 0) (place-in (otherPlaces S) i h) in omega arith);
+        }
+
+    split-places : Places (take (q .names) names′) (take (q .others) others′)
+    split-places = subst (λ l. Places l (take (q .others) others′)) (sym (names-held s r x z y)) (subst (λ l. Places (namePlaces S) l) (sym (others-held s r x z y)) tableau-places)
+
+    module _ (many : length ps ≡ r .formulas) {w n : ℕ} {tw lw base base′ globals : List ℕ} (wide : WordsFor (length ln) w) (tr : Truths ms ln w tw) (rs : Rows ms ln w lw) (eb : base′ ≡ packed w (makesAll ms ln globals) base)
+        (eg : globals ≡ take (length ps - 1) ps) (en : n ≡ 2 ^ (q .others * q .names)) where
+      framed-read : Framed S (positive (goalOf (formulas s))) ms ln base tw lw base′ names′ others′ (record { words = w; names = q .names; others = q .others; goal = getD ps (length ps - 1) 0; namings = n })
+      framed-read = record {
+        ready = record { table = table s r x; leans = leans s r x (let a = lean-length s r x in omega arith); small = (let a = wide .few in omega arith); truths = tr; rows = rs; places = ex-places s r x };
+        globals = globals;
+        based = eb;
+        matches = split-matches s r x z y globals (before-map many globals eg);
+        enough = wide .enough;
+        few-words = (wide .some, wide .few);
+        goal-inside = last-inside many;
+        goal-is = last-form many;
+        namings-are = en ∙ namings-is;
+        places-in = split-places;
+      }
+
+-- ---- of lists that are a reading's
+
+module _ {ms ln kinds places s : List ℕ} {r : Reading} (g : Given ms ln kinds places s r) where
+  -- what holds of a reading's holds of them
+  given-by : (Q : List ℕ → List ℕ → List ℕ → List ℕ → Type 0) → Q (tableOf r) (leanOf r) (kindsOf r) (take (r .formulas) (r .places)) → Q ms ln kinds places
+  given-by Q h =
+      subst (λ l. Q l ln kinds places) (sym (g .table-is))
+      (subst (λ l. Q (tableOf r) l kinds places) (sym (g .lean-is))
+      (subst (λ l. Q (tableOf r) (leanOf r) l places) (sym (g .kinds-are))
+      (subst (λ l. Q (tableOf r) (leanOf r) (kindsOf r) l) (sym (g .places-are)) h)))
+
+  given-many : length (take (r .formulas) (r .places)) ≡ r .formulas
+  given-many = ap length (sym (g .places-are)) ∙ g .many
+
+  given-table : Table ms
+  given-table = given-by (λ m l k p. Table m) (table s r (g .says))
+
+  given-count : length ms ≡ r .count
+  given-count = ap length (g .table-is) ∙ table-length s r (g .says)
+
+  given-width : length ln ≡ r .width
+  given-width = ap length (g .lean-is) ∙ lean-length s r (g .says)
+
+  given-any : 0 < length places
+  given-any = let a = formulas-any s r (g .says) (g .read) in let b = g .many in omega arith
+
+  given-leans : r .width ≤ 60 → Leans ms ln
+  given-leans h = given-by (λ m l k p. Leans m l) (leans s r (g .says) h)
+
+  given-before : (j : ℕ) → j < length places - 1 → getD places j 0 < length ms
+  given-before = given-by (λ m l k p. (j : ℕ) → j < length p - 1 → getD p j 0 < length m) (before-inside s r (g .says) (g .read) given-many)
+
+  given-few : length ln ≤ 8 → {names others names′ others′ : List ℕ} {q : Split} → SplitIs ms ln kinds names others names′ others′ q → (q .names ≤ 2) × (q .others ≤ 8)
+  given-few h {names} {others} {names′} {others′} {q} =
+      given-by (λ m l k p. length l ≤ 8 → SplitIs m l k names others names′ others′ q → (q .names ≤ 2) × (q .others ≤ 8)) (λ a y. split-few s r (g .says) (g .read) a y) h
+
+  given-splits : (names others : List ℕ) → length ln ≤ 8 → 8 ≤ length names → 8 ≤ length others → Splits ms ln names others
+  given-splits names others h i j = let a = given-width in given-by (λ m l k p. Splits m l names others) (splits s r (g .says) names others (omega arith) (omega arith) (omega arith))
+
+  pub given-framed : length ln ≤ 8 → {w n : ℕ} {tw lw base base′ globals names others names′ others′ : List ℕ} {q : Split} → WordsFor (length ln) w → Truths ms ln w tw → Rows ms ln w lw → base′ ≡ packed w (makesAll ms ln globals) base
+      → globals ≡ take (length places - 1) places → SplitIs ms ln kinds names others names′ others′ q → n ≡ 2 ^ (q .others * q .names)
+      → Framed (tableauIn s) (positive (goalOf (formulas s))) ms ln base tw lw base′ names′ others′ (record { words = w; names = q .names; others = q .others; goal = getD places (length places - 1) 0; namings = n })
+  given-framed h {w} {n} {tw} {lw} {base} {base′} {globals} {names} {others} {names′} {others′} {q} wide tr rs eb eg y en =
+      given-by (λ m l k p. length l ≤ 8 → WordsFor (length l) w → Truths m l w tw → Rows m l w lw → base′ ≡ packed w (makesAll m l globals) base → globals ≡ take (length p - 1) p → SplitIs m l k names others names′ others′ q
+      → Framed (tableauIn s) (positive (goalOf (formulas s))) m l base tw lw base′ names′ others′ (record { words = w; names = q .names; others = q .others; goal = getD p (length p - 1) 0; namings = n }))
+      (λ a b c d e f i. framed-read s r (g .says) (g .read) a i given-many b c d e f en) h wide tr rs eb eg y
+
+-- ---- call by call
+
+module _ {ms ln kinds places tw lw base names others : List ℕ} (x : Frames ms ln kinds places tw lw base names others) where
+  pub frame-narrow : length ln ≤ 8
+  frame-narrow = let a = given-width (x .given) in let b = x .narrow in omega arith
+
+  pub frame-any : 1 ≤ length places
+  frame-any = let a = given-any (x .given) in omega arith
+
+  pub frame-few : length places ≤ 5
+  frame-few = let a = x .given .many in let b = x .few in omega arith
+
+  pub truths-asks : {w : ℕ} → WordsFor (length ln) w → Table ms × (Leans ms ln × (length ms * w ≤ length tw))
+  truths-asks {w} v =
+      let a = given-count (x .given) in
+      let b = x .small in
+      let c = x .narrow in
+      (given-table (x .given), (given-leans (x .given) (omega arith), truth-room (length ms) w (length tw) (omega arith) (v .few) (x .tw-room)))
+
+  pub links-asks : {w : ℕ} {tw′ : List ℕ} → WordsFor (length ln) w → Truths ms ln w tw′ → Table ms × (Truths ms ln w tw′ × ((w * 1024 * w ≤ length lw) × (w ≤ 1024)))
+  links-asks {w} v t = (given-table (x .given), (t, (link-room w (length lw) (v .few) (x .lw-room), (let a = v .few in omega arith))))
+
+  pub copy-asks : ((length places - 1 ≤ length places) × (length places - 1 ≤ 8)) × ((j : ℕ) → j < length places - 1 → getD places j 0 < 256)
+  copy-asks =
+      let f = frame-few in
+      let a = given-count (x .given) in
+      let b = x .small in
+      ((omega arith, omega arith), λ j h. (let c = given-before (x .given) j h in omega arith))
+
+  pub copied-room : {m : ℕ} → m ≡ 8 → length places - 1 ≤ m
+  copied-room {m} e = let f = frame-few in omega arith
+
+  pub base-asks : {w : ℕ} {tw′ globals : List ℕ} → WordsFor (length ln) w → Truths ms ln w tw′ → globals ≡ take (length places - 1) places
+      → Truths ms ln w tw′ × (((w ≤ length base) × (length ln ≤ 60)) × ((i : ℕ) → i < length globals → getD globals i 0 < length ms))
+  base-asks {w} {tw′} {globals} v t e =
+      let a = frame-narrow in
+      let b = v .few in
+      let c = x .base-room in
+      let n = length-take-le (length places - 1) places (omega arith) in
+      let m = ap length e in
+      (t, ((omega arith, omega arith), λ i h. (let k : i < length places - 1 = omega arith in subst (λ p. p < length ms) (sym (ap (λ l. getD l i 0) e ∙ getD-take (length places - 1) places i 0 k)) (given-before (x .given) i k))))
+
+  pub split-asks : Splits ms ln names others
+  split-asks = given-splits (x .given) names others frame-narrow (x .names-room) (x .others-room)
+
+  pub count-asks : {names₁ others₁ names′ others′ : List ℕ} {q : Split} → SplitIs ms ln kinds names₁ others₁ names′ others′ q → (q .names ≤ 2) × (q .others ≤ 8)
+  count-asks y = given-few (x .given) frame-narrow y
+
+  pub frame-is : {w n : ℕ} {tw′ lw′ base′ globals names′ others′ : List ℕ} {q : Split} → WordsFor (length ln) w → Truths ms ln w tw′ → Rows ms ln w lw′ → base′ ≡ packed w (makesAll ms ln globals) base
+      → globals ≡ take (length places - 1) places → SplitIs ms ln kinds names others names′ others′ q → n ≡ 2 ^ (q .others * q .names)
+      → FramedAs ms ln kinds places base tw′ lw′ base′ names′ others′ (record { words = w; names = q .names; others = q .others; goal = getD places (length places - 1) 0; namings = n })
+  frame-is wide tr rs eb eg y en = λ s r g. given-framed g frame-narrow wide tr rs eb eg y en

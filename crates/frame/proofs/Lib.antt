@@ -1,0 +1,3 @@
+pub mod CopyLaws
+pub mod FrameLaws
+pub mod VerdictLaws

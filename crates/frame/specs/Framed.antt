@@ -1,0 +1,62 @@
+-- What judging needs of a sheet, once for all namings: what computing it asks, and what it gives. Assumes nothing.
+use mathlib.Core.Path.{_≡_}
+use mathlib.Core.List.{List}
+use Prim.Native.Nat.{ℕ, _*_, _^_, _≤_, _<_}
+use lib.ListN.{length, take}
+use Rattle.ctl.specs.Formula.{Form}
+use Rattle.ctl.specs.Positive.{positive}
+use Rattle.ctl.specs.Tableau.{Tableau, namings}
+use Rattle.wordset.specs.Words.{packed}
+use Rattle.sheet.specs.Refusal.{readRefusal}
+use Rattle.sheet.specs.Reading.{formulas, goalOf}
+use Rattle.tableau.specs.Families.{Ready}
+use Rattle.tableau.specs.Matches.{Matches}
+use Rattle.tableau.specs.Starts.{makesAll}
+use Rattle.tableau.specs.Tables.{form}
+use Rattle.reader.specs.declared.Reading.{Reading}
+use Rattle.reader.specs.Reader.{Says}
+use Rattle.prepare.specs.Prepared.{kindsOf, leanOf, tableOf, tableauIn}
+use Rattle.judge.specs.Judged.{Places}
+use Rattle.frame.specs.declared.Frame.{Frame}
+
+-- the table, the lean, the kinds and the formulas' places are those of a sheet that was read
+pub record Given (ms ln kinds places : List ℕ) (s : List ℕ) (r : Reading) : Type 0 where
+  pub says : Says s r
+  pub read : readRefusal s ≡ 0
+  pub table-is : ms ≡ tableOf r
+  pub lean-is : ln ≡ leanOf r
+  pub kinds-are : kinds ≡ kindsOf r
+  pub places-are : places ≡ take (r .formulas) (r .places)
+  pub many : length places ≡ r .formulas
+
+-- what is asked: these, within their limits, and room in the stores
+pub record Frames (ms ln kinds places tw lw base names others : List ℕ) : Type 0 where
+  pub sheet : List ℕ
+  pub reading : Reading
+  pub given : Given ms ln kinds places sheet reading
+  pub few : reading .formulas ≤ 5
+  pub narrow : reading .width ≤ 8
+  pub small : reading .count ≤ 128
+  pub tw-room : 512 ≤ length tw
+  pub lw-room : 16384 ≤ length lw
+  pub base-room : 4 ≤ length base
+  pub names-room : 8 ≤ length names
+  pub others-room : 8 ≤ length others
+
+-- and what is given
+pub record Framed (S : Tableau) (goal : Form) (ms ln base tw′ lw′ base′ names′ others′ : List ℕ) (f : Frame) : Type 0 where
+  pub ready : Ready ms ln (f .words) tw′ lw′
+  pub globals : List ℕ
+  pub based : base′ ≡ packed (f .words) (makesAll ms ln globals) base
+  pub matches : Matches S ms ln globals (take (f .names) names′) (take (f .others) others′)
+  pub enough : 2 ^ length ln ≤ f .words * 64
+  pub few-words : (1 ≤ f .words) × (f .words ≤ 4)
+  pub goal-inside : f .goal < length ms
+  pub goal-is : form ms (f .goal) ≡ goal
+  pub namings-are : f .namings ≡ namings S
+  pub places-in : Places (take (f .names) names′) (take (f .others) others′)
+
+-- for whichever sheet and reading they are of
+abbrev pub FramedAs : List ℕ → List ℕ → List ℕ → List ℕ → List ℕ → List ℕ → List ℕ → List ℕ → List ℕ → List ℕ → Frame → Type 0
+FramedAs ms ln kinds places base tw′ lw′ base′ names′ others′ f =
+    (s : List ℕ) (r : Reading) → Given ms ln kinds places s r → Framed (tableauIn s) (positive (goalOf (formulas s))) ms ln base tw′ lw′ base′ names′ others′ f
