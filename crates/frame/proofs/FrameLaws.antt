@@ -4,6 +4,7 @@ use mathlib.Core.List.{List, [], _∷_, map, List·Memᴰ·head, List·Memᴰ·t
 use Prim.Native.Nat.{ℕ, zero, suc, _-_, _*_, _^_, _≤_, _<_}
 use native.Mathlib.Omega.{arith}
 use lib.ListN.{length, getD, take}
+use lib.Pow.{pow-mono}
 use lib.Seq.{getD-take, length-take-le}
 use Rattle.ctl.specs.Lists.{_∈_}
 use Rattle.ctl.specs.Positive.{positive}
@@ -26,6 +27,7 @@ use Rattle.prepare.proofs.SplitBridge.{names-are, names-held, others-are, other
 use Rattle.prepare.proofs.NameCount.{name-below, names-two, other-below, others-few}
 use Rattle.judge.specs.Judged.{Places}
 use Rattle.frame.specs.Framed.{Framed, FramedAs, Frames, Given}
+use Rattle.frame.proofs.CopyLaws.{few-bits}
 
 -- ---- lists and numbers
 
@@ -136,9 +138,12 @@ module _ (s : List ℕ) (r : Reading) (x : Says s r) (z : readRefusal s ≡ 0) w
         matches = split-matches s r x z y globals (before-map many globals eg);
         enough = wide .enough;
         few-words = (wide .some, wide .few);
+        no-more = wide .tight;
         goal-inside = last-inside many;
         goal-is = last-form many;
         namings-are = en ∙ namings-is;
+        few-namings = subst (λ m. m ≤ 65536) (sym en) (pow-mono (few-bits (q .names) (q .others) (split-few .0) (split-few .1)));
+        few-places = split-few;
         places-in = split-places;
       }
 

@@ -1,3 +1,4 @@
 pub mod CopyLaws
 pub mod FrameLaws
 pub mod VerdictLaws
+pub mod SetUpLaws

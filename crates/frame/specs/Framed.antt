@@ -1,7 +1,7 @@
 -- What judging needs of a sheet, once for all namings: what computing it asks, and what it gives. Assumes nothing.
 use mathlib.Core.Path.{_≡_}
 use mathlib.Core.List.{List}
-use Prim.Native.Nat.{ℕ, _*_, _^_, _≤_, _<_}
+use Prim.Native.Nat.{ℕ, _*_, _^_, _≤_, _<_, max}
 use lib.ListN.{length, take}
 use Rattle.ctl.specs.Formula.{Form}
 use Rattle.ctl.specs.Positive.{positive}
@@ -51,9 +51,12 @@ pub record Framed (S : Tableau) (goal : Form) (ms ln base tw′ lw′ base′ na
   pub matches : Matches S ms ln globals (take (f .names) names′) (take (f .others) others′)
   pub enough : 2 ^ length ln ≤ f .words * 64
   pub few-words : (1 ≤ f .words) × (f .words ≤ 4)
+  pub no-more : f .words * 64 ≤ max 64 (2 ^ length ln)
   pub goal-inside : f .goal < length ms
   pub goal-is : form ms (f .goal) ≡ goal
   pub namings-are : f .namings ≡ namings S
+  pub few-namings : f .namings ≤ 65536
+  pub few-places : (f .names ≤ 2) × (f .others ≤ 8)
   pub places-in : Places (take (f .names) names′) (take (f .others) others′)
 
 -- for whichever sheet and reading they are of

@@ -2,16 +2,58 @@
 ghost use mathlib.Core.Path.{_≡_};
 ghost use Prim.Native.Nat.{_≤_, _<_};
 ghost use lib.ListN.{length};
-ghost use Rattle.tableau.specs.Families.{Ready};
+ghost use Rattle.tableau.specs.Families.{Ready, Rounds, Survivors};
+ghost use Rattle.tableau.specs.Starts.{startList};
+ghost use Rattle.tableau.specs.Tabled.{Tabled};
 ghost use Rattle.judge.specs.Judged.{goalsAt, Room, Places, Judged};
 ghost use Rattle.tableau.specs.Goals.{firstOf};
 use tableau::goal::Found;
 use tableau::goal::goal_type;
+use tableau::table::Counts;
 use tableau::table::table;
 
 pub enum Verdict {
     Open { naming: u64, least: usize },
     Unsatisfiable,
+}
+
+// Naming r: both stores then hold its surviving types. The room that its rounds work in is local.
+pub fn fill_table(
+    ms: &[u64],
+    ln: &[u8],
+    w: usize,
+    tw: &[u64],
+    lw: &[u64],
+    names: &[u8],
+    others: &[u8],
+    base: &[u64],
+    r: u64,
+    first: &mut [u64],
+    second: &mut [u64],
+) -> Counts
+    requires { ⌜ Ready (now ms) (now ln) w (now tw) (now lw) ⌝ }
+    requires { ⌜ Places (now names) (now others) × ((w ≤ 4) × ((w ≤ length (now base)) × ((w ≤ length (now first)) × (w ≤ length (now second))))) ⌝ }
+    ensures { λ c. ⌜ Tabled (startList w (now (base .entry)) (now (names .entry)) (now (others .entry)) r) (Survivors (now (ms .entry)) (now (ln .entry)) (startList w (now (base .entry)) (now (names .entry)) (now (others .entry)) r)) (Rounds (now (ms .entry)) (now (ln .entry)) (startList w (now (base .entry)) (now (names .entry)) (now (others .entry)) r)) w (now (first .entry)) (now (second .entry)) (now (first .exit)) (now (second .exit)) c ⌝ }
+{
+    let mut u = [0u64; 4];
+    let mut todo = [0u64; 4];
+    let mut v = [0u64; 4];
+    table(
+        ms,
+        ln,
+        w,
+        tw,
+        lw,
+        names,
+        others,
+        r,
+        base,
+        first,
+        second,
+        &mut u,
+        &mut todo,
+        &mut v,
+    )
 }
 
 // The least surviving type of naming r that has the goal. The five stores are room to work in.

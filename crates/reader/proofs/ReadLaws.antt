@@ -41,7 +41,7 @@ refused-is {k = k} h n e b = record {
   refused = λ m. subst (λ q. q ≡ blank (q .refusal)) (sym b) refl;
 }
 
-take-within : (n : ℕ) (xs : List ℕ) → length (take n xs) ≡ n → n ≤ length xs
+pub take-within : (n : ℕ) (xs : List ℕ) → length (take n xs) ≡ n → n ≤ length xs
 take-within zero xs e = omega arith
 take-within (suc n) [] e = absurd (omega arith)
 take-within (suc n) (x ∷ xs) e = let h = take-within n xs (omega arith) in omega arith

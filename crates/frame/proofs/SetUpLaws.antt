@@ -1,0 +1,118 @@
+-- From a reading to a set-up, call by call. Assumes nothing.
+use mathlib.Core.Path.{_≡_, refl, sym, ap, _∙_, subst}
+use mathlib.Core.List.{List, map}
+use mathlib.Core.Logic.{_⊎_, inl, inr}
+use Prim.Native.Nat.{ℕ, _≤_, _<_}
+use native.Mathlib.Omega.{arith}
+use lib.ListN.{length, length-map, replicate, take}
+use lib.Seq.{length-take-le}
+use Rattle.wordset.proofs.BelowLaws.{lt-or-le}
+use Rattle.sheet.specs.Refusal.{readRefusal}
+use Rattle.sheet.specs.Reading.{formulas, goalOf}
+use Rattle.ctl.specs.Positive.{positive}
+use Rattle.sheet.proofs.SizeLaws.{formulas-many, texts-five}
+use Rattle.reader.specs.declared.Reading.{Reading}
+use Rattle.reader.specs.Reader.{ReadIs, Says, members, numberOf, places, refusalOf}
+use Rattle.reader.proofs.NumberLaws.{within-nine, within-ten, within-zero}
+use Rattle.reader.proofs.ReadLaws.{take-within}
+use Rattle.prepare.specs.Prepared.{kindsOf, leanOf, tableOf, tableauIn}
+use Rattle.frame.specs.Framed.{Framed, FramedAs, Frames, Given}
+use Rattle.frame.specs.SetUp.{SetUp, nothingBy}
+use Rattle.frame.specs.declared.Frame.{Frame}
+use Rattle.frame.specs.declared.Setup.{Setup}
+
+module _ {s : List ℕ} {r : Reading} (x : ReadIs 64 8 s r) {k : ℕ} (e : k ≡ numberOf (r .refusal)) where
+  pub setup-refused : {tw lw : List ℕ} {u : Setup} → (k ≡ 0 → ⊥) → u ≡ nothingBy k → SetUp s tw lw u
+  setup-refused h i = record { is = ap (λ q. q .refusal) i ∙ e ∙ x .is; accepts = λ z. absurd (h (e ∙ x .is ∙ z)) }
+
+  module _ (none : k ≡ 0) where
+    zero-is : refusalOf s ≡ 0
+    zero-is = sym (x .is) ∙ sym e ∙ none
+
+    says : Says s r
+    says = x .accepted zero-is
+
+    right : readRefusal s ≡ 0
+    right = within-zero 64 8 s zero-is
+
+    pub count-within : r .count ≤ length (r .members)
+    count-within = says .tabled .room
+
+    width-is : length (leanOf r) ≡ r .width
+    width-is = sym (length-map (leanOf r) _) ∙ ap length (says .lean-are) ∙ sym (says .lean-many)
+
+    pub width-within : r .width ≤ length (r .lean)
+    width-within = take-within (r .width) (r .lean) width-is
+
+    pub symbols-within : length (r .letters) ≡ 8 → length (r .kinds) ≡ 8 → r .symbols ≤ length (r .kinds)
+    symbols-within a b = let h = take-within (r .symbols) (r .letters) (ap length (says .letters-are) ∙ sym (says .symbols)) in omega arith
+
+    formulas-five : r .formulas ≤ 5
+    formulas-five = let a = texts-five s right in let b = formulas-many s right in let c = says .many in omega arith
+
+    pub formulas-within : length (r .places) ≡ 5 → r .formulas ≤ length (r .places)
+    formulas-within a = let b = formulas-five in omega arith
+
+    members-few : length (members s) ≤ 64
+    members-few = go (lt-or-le 64 (length (members s)))
+      where
+        go : (64 < length (members s)) ⊎ (length (members s) ≤ 64) → length (members s) ≤ 64
+        go (inl h) = let z : _≡_ {A = ℕ} 0 9 = sym zero-is ∙ within-nine 64 8 s right h in absurd (omega arith)
+        go (inr h) = h
+
+    lean-few : r .width ≤ 8
+    lean-few = go (lt-or-le 8 (length (places s)))
+      where
+        go : (8 < length (places s)) ⊎ (length (places s) ≤ 8) → r .width ≤ 8
+        go (inl h) = let z : _≡_ {A = ℕ} 0 10 = sym zero-is ∙ within-ten 64 8 s right members-few h in absurd (omega arith)
+        go (inr h) = let a = says .lean-many in omega arith
+
+    given : length (r .places) ≡ 5 → Given (tableOf r) (leanOf r) (kindsOf r) (take (r .formulas) (r .places)) s r
+    given a = record { says = says; read = right; table-is = refl; lean-is = refl; kinds-are = refl; places-are = refl; many = length-take-le (r .formulas) (r .places) (formulas-within a) }
+
+    pub frame-asked : {tw lw base names others : List ℕ} → length (r .places) ≡ 5 → (512 ≤ length tw) × (16384 ≤ length lw) → length base ≡ 4 → length names ≡ 8 → length others ≡ 8
+        → Frames (tableOf r) (leanOf r) (kindsOf r) (take (r .formulas) (r .places)) tw lw base names others
+    frame-asked a room b c d = record {
+      sheet = s;
+      reading = r;
+      given = given a;
+      few = formulas-five;
+      narrow = lean-few;
+      small = (let m = members-few in let n = says .tabled .count in omega arith);
+      tw-room = room .0;
+      lw-room = room .1;
+      base-room = omega arith;
+      names-room = omega arith;
+      others-room = omega arith;
+    }
+
+    pub setup-accepted : {base tw lw base′ names′ others′ : List ℕ} {f : Frame} → base ≡ replicate 4 0 → length (r .places) ≡ 5
+        → FramedAs (tableOf r) (leanOf r) (kindsOf r) (take (r .formulas) (r .places)) base tw lw base′ names′ others′ f → length base′ ≡ 4 → length names′ ≡ 8 → length others′ ≡ 8
+        → SetUp s tw lw (record {
+          refusal = 0;
+          count = r .count;
+          members = r .members;
+          width = r .width;
+          lean = r .lean;
+          base = base′;
+          names = f .names;
+          named = names′;
+          others = f .others;
+          unnamed = others′;
+          words = f .words;
+          goal = f .goal;
+          namings = f .namings;
+        })
+    setup-accepted {base} {tw} {lw} {base′} {names′} {others′} {f} i a y b c d = record {
+      is = sym zero-is;
+      accepts = λ z. (let x = y s r (given a) in
+          let n = x .few-places in
+          record {
+            framed = subst (λ l. Framed (tableauIn s) (positive (goalOf (formulas s))) (tableOf r) (leanOf r) l tw lw base′ names′ others′ f) i x;
+            members-within = count-within;
+            lean-within = width-within;
+            names-within = omega arith;
+            others-within = omega arith;
+            base-long = b;
+          });
+    }

@@ -1,0 +1,59 @@
+-- What setting up a sheet gives: its refusal, or a frame with all that is read off the sheet. Assumes nothing.
+use mathlib.Core.Path.{_≡_}
+use mathlib.Core.List.{List}
+use Prim.Native.Nat.{ℕ, _≤_}
+use lib.ListN.{length, replicate, take}
+use Rattle.ctl.specs.Positive.{positive}
+use Rattle.sheet.specs.Reading.{formulas, goalOf}
+use Rattle.reader.specs.Reader.{refusalOf}
+use Rattle.prepare.specs.Prepared.{tableauIn}
+use Rattle.frame.specs.Framed.{Framed}
+use Rattle.frame.specs.declared.Frame.{Frame}
+use Rattle.frame.specs.declared.Setup.{Setup}
+
+-- a refusal, and nothing else
+abbrev pub nothingBy : ℕ → Setup
+nothingBy k = record {
+  refusal = k;
+  count = 0;
+  members = replicate 128 0;
+  width = 0;
+  lean = replicate 12 0;
+  base = replicate 4 0;
+  names = 0;
+  named = replicate 8 0;
+  others = 0;
+  unnamed = replicate 8 0;
+  words = 0;
+  goal = 0;
+  namings = 0;
+}
+
+-- the parts of a set-up
+abbrev pub membersIn : Setup → List ℕ
+membersIn r = take (r .count) (r .members)
+
+abbrev pub leanIn : Setup → List ℕ
+leanIn r = take (r .width) (r .lean)
+
+abbrev pub namesIn : Setup → List ℕ
+namesIn r = take (r .names) (r .named)
+
+abbrev pub othersIn : Setup → List ℕ
+othersIn r = take (r .others) (r .unnamed)
+
+abbrev pub frameIn : Setup → Frame
+frameIn r = record { words = r .words; names = r .names; others = r .others; goal = r .goal; namings = r .namings }
+
+-- that of a sheet which is not refused, with its truth words and link words
+pub record Accepts (s tw′ lw′ : List ℕ) (r : Setup) : Type 0 where
+  pub framed : Framed (tableauIn s) (positive (goalOf (formulas s))) (membersIn r) (leanIn r) (replicate 4 0) tw′ lw′ (r .base) (r .named) (r .unnamed) (frameIn r)
+  pub members-within : r .count ≤ length (r .members)
+  pub lean-within : r .width ≤ length (r .lean)
+  pub names-within : r .names ≤ length (r .named)
+  pub others-within : r .others ≤ length (r .unnamed)
+  pub base-long : length (r .base) ≡ 4
+
+pub record SetUp (s tw′ lw′ : List ℕ) (r : Setup) : Type 0 where
+  pub is : r .refusal ≡ refusalOf s
+  pub accepts : refusalOf s ≡ 0 → Accepts s tw′ lw′ r
