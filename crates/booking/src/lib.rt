@@ -1,0 +1,58 @@
+// The tables of all namings, one after the other in a store. Assumes nothing.
+ghost use mathlib.Core.Path.{_≡_};
+ghost use mathlib.Core.List.{_++_};
+ghost use Prim.Native.Nat.{_*_, _≤_};
+ghost use lib.ListN.{length, drop};
+ghost use Rattle.ctl.specs.Lists.{elem};
+ghost use Rattle.wordset.specs.Words.{packed};
+ghost use Rattle.tableau.specs.Families.{Ready, Survivors};
+ghost use Rattle.tableau.specs.Starts.{startList};
+ghost use Rattle.judge.specs.Judged.{Places};
+ghost use Rattle.booking.specs.Booked.{tablesBy};
+
+// Naming r's surviving types in the first w words of a store. The other store of its rounds is local.
+fn fill_one(
+    ms: &[u64],
+    ln: &[u8],
+    w: usize,
+    tw: &[u64],
+    lw: &[u64],
+    names: &[u8],
+    others: &[u8],
+    base: &[u64],
+    r: u64,
+    store: &mut [u64],
+)
+    requires { ⌜ Ready (now ms) (now ln) w (now tw) (now lw) ⌝ }
+    requires { ⌜ Places (now names) (now others) × ((w ≤ 4) × ((w ≤ length (now base)) × (w ≤ length (now store)))) ⌝ }
+    ensures { λ _. ⌜ now (store .exit) ≡ packed w (λ t. elem t (Survivors (now (ms .entry)) (now (ln .entry)) (startList w (now (base .entry)) (now (names .entry)) (now (others .entry)) r))) (now (store .entry)) ⌝ }
+{
+    let mut other = [0u64; 4];
+    judge::fill_table(ms, ln, w, tw, lw, names, others, base, r, store, &mut other);
+}
+
+// The tables of namings 0 to n - 1, naming r's w words from word r * w on; the rest of the store is as it was.
+// Each is written by lending on the part that begins at its place.
+pub fn fill_book(
+    ms: &[u64],
+    ln: &[u8],
+    w: usize,
+    tw: &[u64],
+    lw: &[u64],
+    names: &[u8],
+    others: &[u8],
+    base: &[u64],
+    namings: u64,
+    store: &mut [u64],
+)
+    requires { ⌜ Ready (now ms) (now ln) w (now tw) (now lw) ⌝ }
+    requires { ⌜ Places (now names) (now others) × ((w ≤ 4) × ((w ≤ length (now base)) × (namings * w ≤ length (now store)))) ⌝ }
+    ensures { λ _. ⌜ now (store .exit) ≡ tablesBy w (λ r t. elem t (Survivors (now (ms .entry)) (now (ln .entry)) (startList w (now (base .entry)) (now (names .entry)) (now (others .entry)) r))) namings ++ drop (namings * w) (now (store .entry)) ⌝ }
+{
+    let mut r: u64 = 0;
+    while r < namings {
+        let at = r as usize * w;
+        fill_one(ms, ln, w, tw, lw, names, others, base, r, &mut store[at..]);
+        r += 1;
+    }
+}
