@@ -1,0 +1,65 @@
+-- What Book answers and leaves at each of its returns. Assumes nothing.
+use mathlib.Core.Path.{_≡_, refl, sym, ap, ap₂, _∙_}
+use mathlib.Core.Bool.{Bool, cond}
+use mathlib.Core.List.{List, _++_}
+use Prim.Native.Nat.{ℕ, zero, suc, _*_, _^_, _≤_, _<_}
+use native.Mathlib.Omega.{arith}
+use native.Mathlib.Nat.{mul-le-mul}
+use lib.ListN.{length, drop}
+use borrow.Author.Tests.{le-ltb, lt-ltb}
+use Rattle.ctl.specs.Lists.{elem}
+use Rattle.tableau.specs.Families.{Survivors}
+use Rattle.tableau.specs.Starts.{startList}
+use Rattle.booking.specs.Booked.{tablesBy}
+use Rattle.booking.proofs.BookLaws.{tables-ext}
+use Rattle.reader.specs.Reader.{refusalOf}
+use Rattle.frame.specs.SetUp.{SetUp, leanIn, membersIn, namesIn, othersIn}
+use Rattle.frame.specs.declared.Setup.{Setup}
+use Rattle.lockgraph.specs.declared.BookAnswer.{BookAnswer}
+use Rattle.lockgraph.specs.declared.BookAnswer.the-variants.{Done, Refused}
+use Rattle.lockgraph.specs.Outcomes.{BookIs, bookAnswer, bookRefusal, bookStore, namingsIn, storeRefusal, survivorsIn, wordsIn}
+use Rattle.lockgraph.proofs.Accepted.{few-namings, few-words, namings-are, not-refused, survivors-are, words-are}
+use Rattle.lockgraph.proofs.RefusalLaws.{else-first, else-next}
+
+-- a refusal leaves the store alone
+refused-by : (s : List ℕ) {k : ℕ} (d : List ℕ) → k ≡ bookRefusal s (length d) → (k ≡ 0 → ⊥) → BookIs s d (Refused k) d
+refused-by s {k} d e n = record { answer = answer k n ∙ ap (bookAnswer s) e; store-holds = store k n ∙ ap (λ q. bookStore s q d) e }
+  where
+    answer : (k : ℕ) → (k ≡ 0 → ⊥) → Refused k ≡ bookAnswer s k
+    answer zero n = absurd (n refl)
+    answer (suc k) n = refl
+
+    store : (k : ℕ) → (k ≡ 0 → ⊥) → d ≡ bookStore s k d
+    store zero n = absurd (n refl)
+    store (suc k) n = refl
+
+module _ {s tw lw : List ℕ} {u : Setup} (x : SetUp s tw lw u) where
+  pub book-refused : (d : List ℕ) → (u .refusal ≡ 0 → ⊥) → BookIs s d (Refused (u .refusal)) d
+  unfolding bookRefusal
+  book-refused d n = refused-by s d (x .is ∙ sym (else-first (refusalOf s) (storeRefusal (namingsIn s * wordsIn s) (length d)) (λ h. n (x .is ∙ h)))) n
+
+  module _ (z : u .refusal ≡ 0) where
+    needed-is : u .namings * u .words ≡ namingsIn s * wordsIn s
+    needed-is = ap₂ _*_ (namings-are x z) (words-are x z)
+
+    pub needed-fits : u .namings * u .words < 2 ^ 64
+    needed-fits = let a = mul-le-mul (few-namings x z) (few-words x z) in omega arith
+
+    number-is : (l : ℕ) → bookRefusal s l ≡ storeRefusal (u .namings * u .words) l
+    unfolding bookRefusal
+    number-is l = else-next (refusalOf s) (storeRefusal (namingsIn s * wordsIn s) l) (not-refused x z) ∙ ap (λ n. storeRefusal n l) (sym needed-is)
+
+    pub book-short : (d : List ℕ) → length d < u .namings * u .words → BookIs s d (Refused 12) d
+    book-short d h = refused-by s d (sym (number-is (length d) ∙ ap (λ b. cond b 12 0) (lt-ltb (length d) (u .namings * u .words) h))) (λ i. omega arith)
+
+    pub book-done : (d d′ : List ℕ) → u .namings * u .words ≤ length d
+        → d′ ≡ tablesBy (u .words) (λ r t. elem t (Survivors (membersIn u) (leanIn u) (startList (u .words) (u .base) (namesIn u) (othersIn u) r))) (u .namings) ++ drop (u .namings * u .words) d
+        → BookIs s d (Done (u .namings) (u .words)) d′
+    book-done d d′ h e =
+        let none : bookRefusal s (length d) ≡ 0 = number-is (length d) ∙ ap (λ b. cond b 12 0) (le-ltb (length d) (u .namings * u .words) h) in
+        record {
+          answer = ap₂ Done (namings-are x z) (words-are x z) ∙ ap (bookAnswer s) (sym none);
+          store-holds = (e ∙ ap₂ _++_
+              (tables-ext (u .words) _ _ (u .namings) (λ r t. ap (elem t) (survivors-are x z r)) ∙ ap₂ (λ w n. tablesBy w (λ r t. elem t (survivorsIn s r)) n) (words-are x z) (namings-are x z))
+              (ap (λ n. drop n d) needed-is) ∙ ap (λ q. bookStore s q d) (sym none));
+        }

@@ -1,0 +1,7 @@
+pub mod Accepted
+pub mod RefusalLaws
+pub mod TableLaws
+pub mod BookingLaws
+pub mod VerdictLaws
+pub mod ListingLaws
+pub mod DemandLaws

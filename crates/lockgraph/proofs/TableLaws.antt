@@ -1,0 +1,60 @@
+-- What Table answers and leaves at each of its returns, and the part that it hands back. Assumes nothing.
+use mathlib.Core.Path.{_≡_, refl, sym, ap, _∙_, subst}
+use mathlib.Core.Bool.{Bool, cond}
+use mathlib.Core.List.{List}
+use Prim.Native.Nat.{ℕ, zero, suc, _%_}
+use lib.ListN.{length, take}
+use borrow.Author.Tests.{eq-eqb, ne-eqb}
+use Rattle.ctl.specs.Tableau.{startTypes}
+use Rattle.ctl.specs.Verdict.{roundsOf, survivingTypes}
+use Rattle.tableau.specs.Tabled.{Tabled}
+use Rattle.tableau.specs.declared.table.Counts.{Counts}
+use Rattle.prepare.specs.Prepared.{tableauIn}
+use Rattle.lockgraph.specs.declared.TableAnswer.{TableAnswer}
+use Rattle.lockgraph.specs.declared.TableAnswer.the-variants.{Done, Refused}
+use Rattle.lockgraph.specs.Outcomes.{TableIs, holding, partOf, placeOf, tableAnswer, tableRefusal, tableStore, wordsIn}
+
+module _ (s : List ℕ) (r : ℕ) where
+  answer-refused : (k : ℕ) → (k ≡ 0 → ⊥) → Refused k ≡ tableAnswer s r k
+  answer-refused zero n = absurd (n refl)
+  answer-refused (suc k) n = refl
+
+  store-untouched : (k : ℕ) (d : List ℕ) → (k ≡ 0 → ⊥) → d ≡ tableStore s r k d
+  store-untouched zero d n = absurd (n refl)
+  store-untouched (suc k) d n = refl
+
+  pub table-refused : {k : ℕ} (first second : List ℕ) → k ≡ tableRefusal s r (length first) (length second) → (k ≡ 0 → ⊥) → TableIs s r first second (Refused k) first second
+  table-refused {k} first second e n = record {
+    answer = answer-refused k n ∙ ap (tableAnswer s r) e;
+    first-holds = store-untouched k first n ∙ ap (λ q. tableStore s r q first) e;
+    second-holds = store-untouched k second n ∙ ap (λ q. tableStore s r q second) e;
+  }
+
+  pub table-done : (first second : List ℕ) {k w : ℕ} {first′ second′ : List ℕ} {c : Counts} → k ≡ tableRefusal s r (length first) (length second) → k ≡ 0 → w ≡ wordsIn s
+      → Tabled (startTypes (tableauIn s) r) (survivingTypes (tableauIn s) r) (roundsOf (tableauIn s) r) (wordsIn s) first second first′ second′ c
+      → TableIs s r first second (Done w (c .start) (c .left) (c .rounds)) first′ second′
+  unfolding holding
+  table-done first second {k} {w} {first′} {second′} {c} e z ew t =
+      let none : 0 ≡ tableRefusal s r (length first) (length second) = sym z ∙ e in
+      record {
+        answer = (ap (λ q. Done q (c .start) (c .left) (c .rounds)) ew ∙ ap (λ q. Done (wordsIn s) q (c .left) (c .rounds)) (t .started)
+            ∙ ap (λ q. Done (wordsIn s) (length (startTypes (tableauIn s) r)) q (c .rounds)) (t .left-over)
+            ∙ ap (Done (wordsIn s) (length (startTypes (tableauIn s) r)) (length (survivingTypes (tableauIn s) r))) (t .rounds-done) ∙ ap (tableAnswer s r) none);
+        first-holds = t .first-holds ∙ ap (λ q. tableStore s r q first) none;
+        second-holds = t .second-holds ∙ ap (λ q. tableStore s r q second) none;
+      }
+
+-- ---- the part handed back
+
+module _ (o : TableAnswer) (first second : List ℕ) (p q : ℕ × ℕ) {w start left rounds : ℕ} (e : o ≡ Done w start left rounds) where
+  pub part-even : rounds % 2 ≡ 0 → (take w second ≡ partOf o first second) × (q ≡ placeOf o p q)
+  part-even h = (
+    sym (ap (λ a. partOf a first second) e ∙ ap (λ b. cond b (take w second) (take w first)) (eq-eqb (rounds % 2) 0 h)),
+    sym (ap (λ a. placeOf a p q) e ∙ ap (λ b. cond b q p) (eq-eqb (rounds % 2) 0 h)),
+  )
+
+  pub part-odd : (rounds % 2 ≡ 0 → ⊥) → (take w first ≡ partOf o first second) × (p ≡ placeOf o p q)
+  part-odd h = (
+    sym (ap (λ a. partOf a first second) e ∙ ap (λ b. cond b (take w second) (take w first)) (ne-eqb (rounds % 2) 0 h)),
+    sym (ap (λ a. placeOf a p q) e ∙ ap (λ b. cond b q p) (ne-eqb (rounds % 2) 0 h)),
+  )

@@ -1,0 +1,30 @@
+-- What Verdict answers at each of its returns. Assumes nothing.
+use mathlib.Core.Path.{_≡_, refl, sym, ap, _∙_}
+use mathlib.Core.List.{List}
+use Prim.Native.Nat.{ℕ, zero, suc}
+use Rattle.ctl.specs.Positive.{positive}
+use Rattle.ctl.specs.Verdict as Ctl
+use Rattle.sheet.specs.Reading.{formulas, goalOf}
+use Rattle.reader.specs.Reader.{refusalOf}
+use Rattle.prepare.specs.Prepared.{tableauIn}
+use Rattle.judge.specs.Judged as Judged
+use Rattle.judge.specs.declared.Verdict.{Verdict}
+use Rattle.frame.specs.SetUp.{SetUp}
+use Rattle.frame.specs.declared.Setup.{Setup}
+use Rattle.lockgraph.specs.declared.VerdictAnswer.{VerdictAnswer}
+use Rattle.lockgraph.specs.declared.VerdictAnswer.the-variants.{Refused}
+use Rattle.lockgraph.specs.Outcomes.{verdictAnswer, verdictBy, verdictIn, verdictOf}
+use Rattle.lockgraph.proofs.Accepted.{not-refused}
+
+answer-refused : (s : List ℕ) (k : ℕ) → (k ≡ 0 → ⊥) → Refused k ≡ verdictAnswer s k
+answer-refused s zero n = absurd (n refl)
+answer-refused s (suc k) n = refl
+
+module _ {s tw lw : List ℕ} {u : Setup} (x : SetUp s tw lw u) where
+  pub verdict-refused : (u .refusal ≡ 0 → ⊥) → Refused (u .refusal) ≡ verdictOf s
+  unfolding verdictOf
+  verdict-refused n = answer-refused s (u .refusal) n ∙ ap (verdictAnswer s) (x .is)
+
+  pub verdict-judged : u .refusal ≡ 0 → (v : Verdict) {a : VerdictAnswer} → Ctl.verdict (tableauIn s) (positive (goalOf (formulas s))) ≡ Judged.verdictOf v → a ≡ verdictBy (Judged.verdictOf v) → a ≡ verdictOf s
+  unfolding verdictOf verdictIn
+  verdict-judged z v e i = i ∙ ap verdictBy (sym e) ∙ ap (verdictAnswer s) (sym (not-refused x z))

@@ -1,0 +1,15 @@
+-- `naming_refusal` meets its contract. Assumes nothing.
+use borrow.Author.Tests.{le-ltb, lt-ltb}
+use Rattle.lockgraph.proofs.refusals.naming_refusal.Statement.{statement}
+use Rattle.lockgraph.proofs.refusals.naming_refusal.Tie as tie
+use Rattle.lockgraph.proofs.refusals.naming_refusal.Reads as reads
+use Rattle.lockgraph.proofs.refusals.naming_refusal.Lts as lts
+
+returns : tie.Need-returns
+returns c = rw (lt-ltb _ _ (c .if1 .taken))
+
+returns-2 : tie.Need-returns-2
+returns-2 c = rw (le-ltb _ _ (c .if1 .left))
+
+pub naming-refusal-spec : {M : Type 1} → statement M
+naming-refusal-spec = tie.close (tie.spec returns returns-2)

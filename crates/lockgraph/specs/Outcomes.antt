@@ -1,0 +1,142 @@
+-- What each operation answers and leaves, from its arguments: the sheet's bytes, the number of a naming, and the stores as they were. Assumes nothing.
+use mathlib.Core.Path.{_≡_}
+use mathlib.Core.Bool.{Bool, cond, _||_}
+use mathlib.Core.List.{List, [], _++_}
+use Prim.Native.Nat.{ℕ, zero, suc, _*_, _/_, _%_, _^_, max}
+use lib.Dec.{eqb, ltb}
+use lib.ListN.{length, take, drop}
+use Rattle.ctl.specs.Lists.{elem}
+use Rattle.ctl.specs.Positive.{positive}
+use Rattle.ctl.specs.Tableau.{namings, startTypes}
+use Rattle.ctl.specs.Verdict as Ctl
+use Rattle.ctl.specs.Verdict.{roundsOf, survivingTypes}
+use Rattle.wordset.specs.Words.{packed}
+use Rattle.sheet.specs.Reading.{formulas, goalOf}
+use Rattle.reader.specs.Reader.{refusalOf}
+use Rattle.prepare.specs.Prepared.{tableauIn}
+use Rattle.booking.specs.Booked.{tablesBy}
+use Rattle.listing.specs.Listed.{EachOnce}
+use Rattle.lockgraph.specs.declared.TableAnswer.{TableAnswer}
+use Rattle.lockgraph.specs.declared.TableAnswer.the-variants as Table
+use Rattle.lockgraph.specs.declared.BookAnswer.{BookAnswer}
+use Rattle.lockgraph.specs.declared.BookAnswer.the-variants as Book
+use Rattle.lockgraph.specs.declared.ListAnswer.{ListAnswer}
+use Rattle.lockgraph.specs.declared.ListAnswer.the-variants as Listing
+use Rattle.lockgraph.specs.declared.VerdictAnswer.{VerdictAnswer}
+use Rattle.lockgraph.specs.declared.VerdictAnswer.the-variants as Judging
+
+-- ---- what an accepted sheet has
+
+-- document 01's W: how many words hold one bit for each type, 1, 2 or 4
+unfoldable pub wordsIn : List ℕ → ℕ
+wordsIn s = max 1 (2 ^ length (tableauIn s .ln) / 64)
+
+abbrev pub namingsIn : List ℕ → ℕ
+namingsIn s = namings (tableauIn s)
+
+-- the surviving types (document 01's standing types) under naming r
+abbrev pub survivorsIn : List ℕ → ℕ → List ℕ
+survivorsIn s r = survivingTypes (tableauIn s) r
+
+-- a store with them in its first W words, type j as bit j mod 64 of word j div 64, and its later words as they were
+unfoldable pub holding : List ℕ → ℕ → List ℕ → List ℕ
+unfolding wordsIn
+holding s r d = packed (wordsIn s) (λ t. elem t (survivorsIn s r)) d
+
+-- ---- refusals: the lowest number that applies
+
+-- a number, or the next where it is 0
+abbrev pub orElse : ℕ → ℕ → ℕ
+orElse k later = cond (eqb k 0) later k
+
+-- 11, naming: not below the number of namings
+abbrev pub namingRefusal : ℕ → ℕ → ℕ
+namingRefusal n r = cond (ltb r n) 0 11
+
+-- 12, store: shorter than what is needed
+abbrev pub storeRefusal : ℕ → ℕ → ℕ
+storeRefusal needed long = cond (ltb long needed) 12 0
+
+unfoldable pub tableRefusal : List ℕ → ℕ → ℕ → ℕ → ℕ
+tableRefusal s r a b = orElse (refusalOf s) (orElse (namingRefusal (namingsIn s) r) (orElse (storeRefusal 4 a) (storeRefusal 4 b)))
+
+unfoldable pub bookRefusal : List ℕ → ℕ → ℕ
+unfolding wordsIn
+bookRefusal s d = orElse (refusalOf s) (storeRefusal (namingsIn s * wordsIn s) d)
+
+unfoldable pub listRefusal : List ℕ → ℕ → ℕ → ℕ
+listRefusal s r d = orElse (refusalOf s) (orElse (namingRefusal (namingsIn s) r) (storeRefusal (length (survivorsIn s r)) d))
+
+-- ---- Table
+
+abbrev pub tableAnswer : List ℕ → ℕ → ℕ → TableAnswer
+tableAnswer s r zero = Table.Done (wordsIn s) (length (startTypes (tableauIn s) r)) (length (survivorsIn s r)) (roundsOf (tableauIn s) r)
+tableAnswer s r (suc k) = Table.Refused (suc k)
+
+-- a store afterwards, where the refusal is k
+abbrev pub tableStore : List ℕ → ℕ → ℕ → List ℕ → List ℕ
+tableStore s r zero d = holding s r d
+tableStore s r (suc k) d = d
+
+pub record TableIs (s : List ℕ) (r : ℕ) (first second : List ℕ) (o : TableAnswer) (first′ second′ : List ℕ) : Type 0 where
+  pub answer : o ≡ tableAnswer s r (tableRefusal s r (length first) (length second))
+  pub first-holds : first′ ≡ tableStore s r (tableRefusal s r (length first) (length second)) first
+  pub second-holds : second′ ≡ tableStore s r (tableRefusal s r (length first) (length second)) second
+
+-- The part handed back: the first W words of the store that was written last. Round 1 writes the second, each round the other, and the last round, which eliminates
+-- nothing, is the one after `rounds`: so it is the second if they are even. Empty with a refusal
+abbrev pub partOf : TableAnswer → List ℕ → List ℕ → List ℕ
+partOf (Table.Refused k) first second = []
+partOf (Table.Done w start left rounds) first second = cond (eqb (rounds % 2) 0) (take w second) (take w first)
+
+-- where it lies: at that store's beginning; the empty one at the first's
+abbrev pub placeOf : TableAnswer → ℕ × ℕ → ℕ × ℕ → ℕ × ℕ
+placeOf (Table.Refused k) first second = first
+placeOf (Table.Done w start left rounds) first second = cond (eqb (rounds % 2) 0) second first
+
+-- ---- Book
+
+abbrev pub bookAnswer : List ℕ → ℕ → BookAnswer
+bookAnswer s zero = Book.Done (namingsIn s) (wordsIn s)
+bookAnswer s (suc k) = Book.Refused (suc k)
+
+-- the store afterwards: the words of all namings one after the other, so naming r's at word r × W, and the rest as it was
+abbrev pub bookStore : List ℕ → ℕ → List ℕ → List ℕ
+bookStore s zero d = tablesBy (wordsIn s) (λ r t. elem t (survivorsIn s r)) (namingsIn s) ++ drop (namingsIn s * wordsIn s) d
+bookStore s (suc k) d = d
+
+pub record BookIs (s d : List ℕ) (o : BookAnswer) (d′ : List ℕ) : Type 0 where
+  pub answer : o ≡ bookAnswer s (bookRefusal s (length d))
+  pub store-holds : d′ ≡ bookStore s (bookRefusal s (length d)) d
+
+-- ---- List
+
+abbrev pub listAnswer : List ℕ → ℕ → ℕ → ListAnswer
+listAnswer s r zero = Listing.Done (length (survivorsIn s r))
+listAnswer s r (suc k) = Listing.Refused (suc k)
+
+-- The only promise that does not say all: the surviving types stand at the beginning of the store, each a single time and nothing else, and in which ORDER is left open
+pub record ListIs (s : List ℕ) (r : ℕ) (d : List ℕ) (o : ListAnswer) (d′ : List ℕ) : Type 0 where
+  pub answer : o ≡ listAnswer s r (listRefusal s r (length d))
+  pub untouched : (listRefusal s r (length d) ≡ 0 → ⊥) → d′ ≡ d
+  pub listed : listRefusal s r (length d) ≡ 0 → EachOnce (survivorsIn s r) (take (length (survivorsIn s r)) d′)
+  pub rest : listRefusal s r (length d) ≡ 0 → drop (length (survivorsIn s r)) d′ ≡ drop (length (survivorsIn s r)) d
+
+-- ---- Verdict
+
+-- the verdict of a sheet that is not refused
+unfoldable pub verdictIn : List ℕ → Ctl.Verdict
+verdictIn s = Ctl.verdict (tableauIn s) (positive (goalOf (formulas s)))
+
+-- each case with document 01's values: open with the least naming, then its least goal type; or unsatisfiable
+abbrev pub verdictBy : Ctl.Verdict → VerdictAnswer
+verdictBy Ctl.unsatisfiable = Judging.Unsatisfiable
+verdictBy (Ctl.open′ r t) = Judging.Open r t
+
+abbrev pub verdictAnswer : List ℕ → ℕ → VerdictAnswer
+verdictAnswer s zero = verdictBy (verdictIn s)
+verdictAnswer s (suc k) = Judging.Refused (suc k)
+
+unfoldable pub verdictOf : List ℕ → VerdictAnswer
+unfolding verdictIn
+verdictOf s = verdictAnswer s (refusalOf s)
