@@ -1,6 +1,12 @@
 // The lines of a corpus: which operation each asks for, and its outcome.
+use crate::book::book;
+use crate::list::list;
+use crate::number::number_at;
+use crate::table::table;
 use crate::text::unescape;
-use crate::text::write_escaped;
+use crate::verdict::goal;
+use crate::verdict::program;
+use crate::verdict::verdict;
 
 // How many bytes the sheet in hand has then, and whether the line was not understood.
 pub struct Done {
@@ -15,11 +21,6 @@ pub fn is_case(line: &[u8]) -> bool {
 pub fn write_line(line: &[u8]) {
     io::write_all(1, line);
     io::write_all(1, b"\n");
-}
-
-fn refused(k: u8) {
-    io::write_all(1, b" refused ");
-    io::print_decimal(1, k as u64);
 }
 
 // The sheet of a line, in the store; a longer one than the store is as wrong as one that just fills it.
@@ -38,49 +39,72 @@ fn take_sheet(text: &[u8], store: &mut [u8], old: usize) -> Done {
     }
 }
 
-fn goal(sheet: &[u8]) {
-    let reading = reader::read(sheet);
-    let refusal = reading.refusal;
-    let k = reader::number(refusal);
-    io::write_all(1, b"goal:");
-    if k == 0 {
-        io::write_all(1, b" ");
-        write_escaped(reader::goal_text(sheet));
-    } else {
-        refused(k);
-    }
-    io::write_all(1, b"\n");
-}
-
-// The operations that this program does not answer yet.
-fn is_later(line: &[u8]) -> bool {
-    if layout::begins_with(line, b"table ") {
-        return true;
-    }
-    if layout::begins_with(line, b"book ") {
-        return true;
-    }
-    if layout::begins_with(line, b"list ") {
-        return true;
-    }
+// The lines that this program passes over.
+fn is_skipped(line: &[u8]) -> bool {
     if layout::begins_with(line, b"snapshot ") {
-        return true;
-    }
-    if layout::same_text(line, b"verdict") {
-        return true;
-    }
-    if layout::same_text(line, b"program") {
         return true;
     }
     layout::same_text(line, b"facts")
 }
 
-fn operate(line: &[u8], sheet: &[u8]) -> bool {
+fn table_line(line: &[u8], sheet: &[u8]) -> bool {
+    let naming = number_at(line, 6);
+    let first = number_at(line, naming.next);
+    let second = number_at(line, first.next);
+    if second.right {
+        table(line, sheet, naming.value, first.value, second.value);
+        return true;
+    }
+    false
+}
+
+fn book_line(line: &[u8], sheet: &[u8]) -> bool {
+    let length = number_at(line, 5);
+    if length.right {
+        book(line, sheet, length.value);
+        return true;
+    }
+    false
+}
+
+fn list_line(line: &[u8], sheet: &[u8]) -> bool {
+    let naming = number_at(line, 5);
+    let length = number_at(line, naming.next);
+    if length.right {
+        list(line, sheet, naming.value, length.value);
+        return true;
+    }
+    false
+}
+
+// The outcome of an operation on the sheet, unless the line is not understood.
+fn answer(line: &[u8], sheet: &[u8]) -> bool {
+    if layout::begins_with(line, b"table ") {
+        return table_line(line, sheet);
+    }
+    if layout::begins_with(line, b"book ") {
+        return book_line(line, sheet);
+    }
+    if layout::begins_with(line, b"list ") {
+        return list_line(line, sheet);
+    }
+    if layout::same_text(line, b"verdict") {
+        verdict(sheet);
+        return true;
+    }
     if layout::same_text(line, b"goal") {
         goal(sheet);
         return true;
     }
-    if is_later(line) {
+    if layout::same_text(line, b"program") {
+        program(sheet);
+        return true;
+    }
+    is_skipped(line)
+}
+
+fn operate(line: &[u8], sheet: &[u8]) -> bool {
+    if answer(line, sheet) {
         return true;
     }
     io::write_all(2, b"not understood: ");

@@ -1,0 +1,43 @@
+// The outcomes of the operations that take a sheet alone: Verdict, the goal's text, and what the program prints.
+use crate::outcome::write_refused;
+use crate::text::write_escaped;
+use lockgraph::VerdictAnswer;
+
+pub fn verdict(sheet: &[u8]) {
+    io::write_all(1, b"verdict:");
+    let answer = lockgraph::verdict(sheet);
+    match answer {
+        VerdictAnswer::Refused(k) => write_refused(k),
+        VerdictAnswer::Open { naming, least } => {
+            io::write_all(1, b" open ");
+            io::print_decimal(1, naming);
+            io::write_all(1, b" ");
+            io::print_decimal(1, least as u64);
+        }
+        VerdictAnswer::Unsatisfiable => {
+            io::write_all(1, b" unsatisfiable - -");
+        }
+    }
+    io::write_all(1, b"\n");
+}
+
+pub fn goal(sheet: &[u8]) {
+    let reading = reader::read(sheet);
+    let refusal = reading.refusal;
+    let k = reader::number(refusal);
+    io::write_all(1, b"goal:");
+    if k == 0 {
+        io::write_all(1, b" ");
+        write_escaped(lockgraph::goal_text(sheet));
+    } else {
+        write_refused(k);
+    }
+    io::write_all(1, b"\n");
+}
+
+// Only the ends of the program's lines have to be escaped: all other bytes that it prints stand for themselves.
+pub fn program(sheet: &[u8]) {
+    io::write_all(1, b"program: ");
+    report::report(sheet, b"\\n");
+    io::write_all(1, b"\n");
+}
