@@ -1,19 +1,15 @@
 -- The table of closure members: a member is a word over the members before it. Assumes nothing.
 use mathlib.Core.Path.{_≡_, refl, sym, ap, ap₂, _∙_, subst}
-use mathlib.Core.List.{List, [], _∷_, _++_, append-assoc, append-nil, List·Memᴰ·head, List·Memᴰ·tail, List·Memᴰ·not-nil, List·Memᴰ·append-cases, List·Memᴰ·eq-of-singleton, Memᴰ·cast}
+use mathlib.Core.List.{List, [], _∷_, _++_, append-assoc, append-nil, List·Memᴰ·head, List·Memᴰ·tail, List·Memᴰ·not-nil, List·Memᴰ·append-cases, List·Memᴰ·eq-of-singleton}
 use mathlib.Core.Logic.{_⊎_, inl, inr}
-use mathlib.Core.Bool.{Bool, true, false}
-use Prim.Native.Nat.{ℕ, zero, suc, _+_, _*_, _/_, _%_, _≤_, _<_}
+use Prim.Native.Nat.{ℕ, suc, _+_, _*_, _/_, _%_, _≤_, _<_}
 use native.Mathlib.Omega.{arith}
 use lib.ListN.{length, getD, take, drop, length-append, List·getD-append}
 use lib.Seq.{split-at, getD-append-seam, length-take-le}
-use lib.Dec.{T}
 use native.Mathlib.Decide.{decLe}
 use Rattle.ctl.specs.Lists.{_∈_}
-use Rattle.ctl.proofs.BoolLaws.{T-true}
 use Rattle.ctl.specs.Formula.{Form, tru, fls, lit, nlit, and, or, ex, ax, eu, au, er, ar}
-use Rattle.ctl.specs.Equality.{formEq}
-use Rattle.ctl.proofs.FormulaLaws.{formEq-refl, formEq-out}
+use Rattle.ctl.proofs.TableauLaws.{index-place}
 use Rattle.ctl.specs.Types.{indexOf}
 use Rattle.ctl.specs.Closure.{Unique, none, more}
 use Rattle.closure.specs.Members.{Canon, Members, argW, c-and, c-ar, c-au, c-ax, c-er, c-eu, c-ex, c-fls, c-lit, c-nlit, c-or, c-tru, formBy, formOf, forms, formsFrom, leftW, rightW, tagW, wordOf}
@@ -143,25 +139,6 @@ module _ (acc : List Form) (few : length acc ≤ 256) (rest : List Form) where
   canon-over (c-ar {A} {l} {r} a hl hr) = word-over 11 A l r (omega arith) a hl hr
 
 -- ---- equal formulas have equal words
-
-pub getD-in : (l : List Form) (k : ℕ) → k < length l → getD l k tru ∈ l
-getD-in [] k h = absurd (omega arith)
-getD-in (p ∷ l) zero h = List·Memᴰ·head refl
-getD-in (p ∷ l) (suc k) h = List·Memᴰ·tail (getD-in l k (omega arith))
-
-index-place : (l : List Form) → Unique l → (k : ℕ) → k < length l → indexOf (getD l k tru) l ≡ k
-unfolding indexOf
-index-place [] u k h = absurd (omega arith)
-index-place (p ∷ l) (more g u) zero h = go (formEq p p) (formEq-refl p)
-  where
-    go : (b : Bool) → T b → _≡_ {A = ℕ} (elim b as (λ c. ℕ) [ true ↦ 0 | false ↦ suc (indexOf p l) ]) 0
-    go true t = refl
-    go false t = absurd t
-index-place (p ∷ l) (more g u) (suc k) h = go (formEq p (getD l k tru)) refl (index-place l u k (omega arith))
-  where
-    go : (b : Bool) → formEq p (getD l k tru) ≡ b → indexOf (getD l k tru) l ≡ k → _≡_ {A = ℕ} (elim b as (λ c. ℕ) [ true ↦ 0 | false ↦ suc (indexOf (getD l k tru) l) ]) (suc k)
-    go true e r = absurd (g (Memᴰ·cast (formEq-out p (getD l k tru) (T-true (formEq p (getD l k tru)) e)) (getD-in l k (omega arith))))
-    go false e r = ap suc r
 
 -- the word of a formula, from the places of its operands
 abbrev codeOf : (Form → ℕ) → Form → ℕ

@@ -9,9 +9,10 @@ use lib.ListN.{length, getD, take, drop, set, length-append, length-set}
 use lib.Seq.{drop-drop, drop-set-lt, length-take-le, getD-take, take-suc-set, getD-append-seam}
 use Rattle.ctl.specs.Lists.{_∈_}
 use Rattle.ctl.specs.Formula.{Form, tru}
+use Rattle.ctl.proofs.ListLaws.{getD-in}
 use Rattle.closure.specs.Members.{Members, Canon, formOf, forms}
 use Rattle.closure.specs.Grown.{Ready, Grows, TooMany, Done, Answer, added, full}
-use Rattle.closure.proofs.MemberLaws.{forms-length, forms-snoc, forms-keep, forms-mem, member, new-form, members-snoc, unique-snoc, getD-in}
+use Rattle.closure.proofs.MemberLaws.{forms-length, forms-snoc, forms-keep, forms-mem, member, new-form, members-snoc, unique-snoc}
 use Rattle.closure.specs.declared.Added.{Added}
 use Rattle.closure.specs.declared.Added.the-variants.{At, Full}
 
@@ -98,7 +99,7 @@ module _ (tab : List ℕ) (n : ℕ) (r : Ready tab n) (w : ℕ) (c : Canon n w) 
       members = r .members;
       rest = [];
       front = sym (append-nil ws);
-      has = sub-one (subst (λ p. p ∈ forms ws) is-it (getD-in (forms ws) i (omega (arith, forms-length ws, size))));
+      has = sub-one (subst (λ p. p ∈ forms ws) is-it (getD-in tru (forms ws) i (omega (arith, forms-length ws, size))));
       only = sub-left (forms ws) (formOf (forms ws) w ∷ []);
     };
     below = h;

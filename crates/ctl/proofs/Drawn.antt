@@ -1,14 +1,14 @@
--- Document 01's proved graphs and the wrong readings of the paper that they exclude, computed: from formulas as typed to the verdict. One table, one proof.
--- Assumes nothing.
+-- Sheets that tell wrong readings of the definitions from the right one, computed from formulas as typed to the verdict. Document 01's proved graphs themselves are one
+-- table above the public library, computed from bytes. Assumes nothing.
 use mathlib.Core.Path.{_≡_, refl}
 use mathlib.Core.List.{List, [], _∷_, map}
 use Prim.Native.Nat.{ℕ, _+_, _^_}
-use lib.ListN.{length, getD}
+use lib.ListN.{getD}
 use Rattle.ctl.specs.Lists.{elem}
 use Rattle.ctl.specs.Raw.{Raw, zero, one, sym, neg, and, imp, ex, ax, ef, af, eg, au}
 use Rattle.ctl.specs.Positive.{positive, signed}
-use Rattle.ctl.specs.Tableau.{Tableau, startTypes}
-use Rattle.ctl.specs.Verdict.{Verdict, unsatisfiable, open′, survivingTypes, roundsOf, verdict}
+use Rattle.ctl.specs.Tableau.{Tableau}
+use Rattle.ctl.specs.Verdict.{Verdict, unsatisfiable, open′, verdict}
 use Rattle.ctl.specs.Demand3.{sheetTableau}
 
 -- a sheet: the letters of line 1 as bytes, the symbols that are names, the globals, the goal
@@ -25,11 +25,6 @@ tableau d = sheetTableau (λ k. getD (d .letters) k 0) (λ k. elem k (d .names))
 judged : Drawing → Verdict
 unfolding tableau verdict signed
 judged d = verdict (tableau d) (positive (d .goal))
-
--- a line of the program's table: types at start, left, rounds
-line : Drawing → ℕ → ℕ × ℕ × ℕ
-unfolding tableau startTypes survivingTypes roundsOf
-line d r = (length (startTypes (tableau d) r), length (survivingTypes (tableau d) r), roundsOf (tableau d) r)
 
 -- ---- sheets
 
@@ -57,13 +52,6 @@ example51 =
     let v = sym 1 in
     record { letters = 107 ∷ 118 ∷ 102 ∷ 103 ∷ []; names = 1 ∷ []; globals = imp v (and (ex (2 ^ 2) k) (ex (2 ^ 2) (neg k))) ∷ []; goal = ex (2 ^ 3) v }
 
--- `v w f g`, `name name field field`, `goal EX{f}(v&w)&EX{g}(v&!w)`
-twoNames : Drawing
-twoNames =
-    let v = sym 0 in
-    let w = sym 1 in
-    record { letters = 118 ∷ 119 ∷ 102 ∷ 103 ∷ []; names = 0 ∷ 1 ∷ []; globals = []; goal = and (ex (2 ^ 2) (and v w)) (ex (2 ^ 3) (and v (neg w))) }
-
 -- `k f`, `all !k`, `goal EF{f}k`
 neverThere : Drawing
 neverThere = record { letters = 107 ∷ 102 ∷ []; names = []; globals = neg k ∷ []; goal = ef forward k }
@@ -79,15 +67,10 @@ record Case : Type 0 where
   answer : Verdict
 
 cases : List Case
-unfolding kf k forward backward both example51 twoNames neverThere otherWay
+unfolding kf k forward backward both example51 neverThere otherWay
 cases =
-    -- `1`, `0`, `EX{f}k`, `EX{f}k&EX{f}!k`
-    record { drawing = kf one; answer = open′ 0 0 }
-    ∷ record { drawing = kf zero; answer = unsatisfiable }
-    ∷ record { drawing = kf (ex forward k); answer = open′ 0 2 }
-    ∷ record { drawing = kf (and (ex forward k) (ex forward (neg k))); answer = unsatisfiable }
     -- `EX{F}k&EX{F}!k`: not one predecessor for all backward EX
-    ∷ record { drawing = kf (and (ex backward k) (ex backward (neg k))); answer = open′ 0 6 }
+    record { drawing = kf (and (ex backward k) (ex backward (neg k))); answer = open′ 0 6 }
     -- `AF{f}k&AX{f}0&!k`: a dead end does not satisfy AF
     ∷ record { drawing = kf (and (af forward k) (and (ax forward zero) (neg k))); answer = unsatisfiable }
     -- `A{f,F}(1Uk)&!k&EX{f}!k`: there is a both-ways rule
@@ -102,34 +85,10 @@ cases =
     ∷ record { drawing = neverThere; answer = unsatisfiable }
     -- a rank goes through every EX of the modes
     ∷ record { drawing = otherWay; answer = unsatisfiable }
+    -- it takes more than one round
     ∷ record { drawing = example51; answer = unsatisfiable }
-    ∷ record { drawing = twoNames; answer = open′ 0 12 }
     ∷ []
 
 all-verdicts : map (λ c. judged (c .drawing)) cases ≡ map (λ c. c .answer) cases
 unfolding judged cases
 all-verdicts = refl
-
--- ---- types at start, left and rounds under a naming, and the types that survive
-
-record Counted : Type 0 where
-  drawing : Drawing
-  naming : ℕ
-  counts : ℕ × ℕ × ℕ
-
-counted : List Counted
-unfolding kf k forward example51
-counted =
-    record { drawing = kf (ex forward k); naming = 0; counts = (4, 4, 0) }
-    ∷ record { drawing = kf zero; naming = 0; counts = (1, 1, 0) }
-    ∷ record { drawing = example51; naming = 0; counts = (16, 6, 1) }
-    ∷ record { drawing = example51; naming = 10; counts = (17, 6, 2) }
-    ∷ []
-
-all-counts : map (λ c. line (c .drawing) (c .naming)) counted ≡ map (λ c. c .counts) counted
-unfolding line counted
-all-counts = refl
-
-survivors51 : survivingTypes (tableau example51) 10 ≡ 0 ∷ 1 ∷ 4 ∷ 5 ∷ 16 ∷ 17 ∷ []
-unfolding survivingTypes tableau example51 k
-survivors51 = refl

@@ -2,7 +2,7 @@
 use mathlib.Core.Path.{_≡_, refl, sym, ap, ap₂, _∙_, subst}
 use mathlib.Core.Logic.{_⊎_, inl, inr}
 use mathlib.Core.Bool.{Bool, true, false, _&&_}
-use mathlib.Core.List.{List, [], _∷_, map, List·Memᴰ·head, List·Memᴰ·tail, List·Memᴰ·cases-cons, List·Memᴰ·not-nil, List·Memᴰ·eq-of-singleton, Memᴰ·cast}
+use mathlib.Core.List.{List, [], _∷_, _++_, map, List·Memᴰ·head, List·Memᴰ·tail, List·Memᴰ·cases-cons, List·Memᴰ·not-nil, List·Memᴰ·eq-of-singleton, Memᴰ·cast}
 use Prim.Native.Nat.{ℕ, zero, suc, _+_, _≤_, _<_}
 use native.Mathlib.Omega.{arith}
 use native.Mathlib.Decide.{decLe}
@@ -248,3 +248,31 @@ pub elem-keep : (p : ℕ → Bool) (l : List ℕ) (x : ℕ) → elem x (keep p l
 elem-keep p l x = both-ways (elem x (keep p l)) (elem x l && p x)
     (λ h. let r = keep-out p l (elem-out x (keep p l) h) in and-in (elem x l) (p x) (elem-in (r .0)) (r .1))
     (λ h. elem-in (keep-in p (elem-out x l (and-0 (elem x l) (p x) h)) (and-1 (elem x l) (p x) h)))
+
+-- ---- the entries of a list
+
+pub getD-in : {A : Type 0} (d : A) (l : List A) (k : ℕ) → k < length l → getD l k d ∈ l
+getD-in d [] k h = absurd (omega arith)
+getD-in d (x ∷ l) zero h = List·Memᴰ·head refl
+getD-in d (x ∷ l) (suc k) h = List·Memᴰ·tail (getD-in d l k (omega arith))
+
+-- ---- what is kept of the numbers below k, and of one more
+
+count-snoc : (a n : ℕ) → countFrom a (suc n) ≡ countFrom a n ++ ((a + n) ∷ [])
+count-snoc a zero = ap (λ i. i ∷ []) (omega arith)
+count-snoc a (suc n) = ap (λ l. a ∷ l) (count-snoc (suc a) n ∙ ap (λ i. countFrom (suc a) n ++ (i ∷ [])) (omega arith))
+
+keep-snoc : (P : ℕ → Bool) (l : List ℕ) (x : ℕ) → keep P (l ++ (x ∷ [])) ≡ keep P l ++ put (P x) x []
+keep-snoc P [] x = refl
+keep-snoc P (y ∷ l) x = go (P y) (keep-snoc P l x)
+  where
+    go : (b : Bool) → keep P (l ++ (x ∷ [])) ≡ keep P l ++ put (P x) x [] → put b y (keep P (l ++ (x ∷ []))) ≡ put b y (keep P l) ++ put (P x) x []
+    go true e = ap (λ k. y ∷ k) e
+    go false e = e
+
+pub keep-next : (P : ℕ → Bool) (k : ℕ) (b : Bool) → b ≡ P k → keep P (below (k + 1)) ≡ keep P (below k) ++ put b k []
+keep-next P k b e =
+    ap (λ i. keep P (below i)) (let h : k + 1 ≡ suc k = omega arith in h)
+    ∙ ap (keep P) (count-snoc 0 k ∙ ap (λ i. below k ++ (i ∷ [])) (let h : 0 + k ≡ k = omega arith in h))
+    ∙ keep-snoc P (below k) k
+    ∙ ap (λ c. keep P (below k) ++ put c k []) (sym e)

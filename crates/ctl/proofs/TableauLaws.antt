@@ -2,7 +2,7 @@
 use mathlib.Core.Path.{_≡_, refl, sym, ap, _∙_, subst}
 use mathlib.Core.Logic.{_⊎_, inl, inr}
 use mathlib.Core.Bool.{Bool, true, false, _||_}
-use mathlib.Core.List.{List, [], _∷_, _++_, List·Memᴰ·head, List·Memᴰ·tail, Memᴰ·cast, Memᴰ·append-left}
+use mathlib.Core.List.{List, [], _∷_, _++_, Memᴰ·cast, Memᴰ·append-left}
 use Prim.Native.Nat.{ℕ, zero, suc, _<_}
 use native.Mathlib.Omega.{arith}
 use lib.ListN.{length, getD}
@@ -17,6 +17,7 @@ use Rattle.ctl.specs.Lean.{isLetter, isNext, lean}
 use Rattle.ctl.specs.Types.{inType, indexOf, holds, truth}
 use Rattle.ctl.specs.Tableau.{Tableau, tableauOf}
 use Rattle.ctl.proofs.BoolLaws.{T-true, and-0, and-1, or-out}
+use Rattle.ctl.proofs.ListLaws.{getD-in}
 use Rattle.ctl.proofs.FormulaLaws.{formEq-out, formEq-refl, is-lit, is-ex, is-ax}
 use Rattle.ctl.proofs.ModeLaws.{single-out}
 use Rattle.ctl.proofs.ClosureLaws.{closure-saturated, closure-has, closure-unique}
@@ -50,12 +51,7 @@ module _ (letter : ℕ → ℕ) (name : ℕ → Bool) (globals goals : List Form
 
 -- ---- a lean member is true in exactly the types that have its place
 
-getD-in : (l : List Form) (k : ℕ) → k < length l → getD l k tru ∈ l
-getD-in [] k h = absurd (omega arith)
-getD-in (p ∷ l) zero h = List·Memᴰ·head refl
-getD-in (p ∷ l) (suc k) h = List·Memᴰ·tail (getD-in l k (omega arith))
-
-index-place : (l : List Form) → Unique l → (k : ℕ) → k < length l → indexOf (getD l k tru) l ≡ k
+pub index-place : (l : List Form) → Unique l → (k : ℕ) → k < length l → indexOf (getD l k tru) l ≡ k
 unfolding indexOf
 index-place [] u k h = absurd (omega arith)
 index-place (p ∷ l) (more g u) zero h = go (formEq p p) (formEq-refl p)
@@ -66,7 +62,7 @@ index-place (p ∷ l) (more g u) zero h = go (formEq p p) (formEq-refl p)
 index-place (p ∷ l) (more g u) (suc k) h = go (formEq p (getD l k tru)) refl (index-place l u k (omega arith))
   where
     go : (b : Bool) → formEq p (getD l k tru) ≡ b → indexOf (getD l k tru) l ≡ k → _≡_ {A = ℕ} (elim b as (λ c. ℕ) [ true ↦ 0 | false ↦ suc (indexOf (getD l k tru) l) ]) (suc k)
-    go true e r = absurd (g (Memᴰ·cast (formEq-out p (getD l k tru) (T-true (formEq p (getD l k tru)) e)) (getD-in l k (omega arith))))
+    go true e r = absurd (g (Memᴰ·cast (formEq-out p (getD l k tru) (T-true (formEq p (getD l k tru)) e)) (getD-in tru l k (omega arith))))
     go false e r = ap suc r
 
 module _ (ln : List Form) (t : ℕ) where
@@ -97,7 +93,7 @@ module _ (letter : ℕ → ℕ) (name : ℕ → Bool) (globals goals : List Form
       → truth (tableauOf letter name globals goals .ln) t (getD (tableauOf letter name globals goals .ln) k tru) ≡ inType t k
   unfolding tableauOf holds
   lean-place t k h =
-      member (or-out (isLetter p) (isNext p) (lean-members letter cl p .0 (getD-in ln k h) .1))
+      member (or-out (isLetter p) (isNext p) (lean-members letter cl p .0 (getD-in tru ln k h) .1))
       ∙ ap (inType t) (index-place ln (lean-unique letter cl (closure-unique (globals ++ goals))) k h)
     where
       cl : List Form

@@ -1,12 +1,12 @@
 -- What computing a frame asks at each call, and that what the calls give is the sheet's tableau. Assumes nothing.
-use mathlib.Core.Path.{_≡_, refl, sym, ap, ap₂, _∙_, subst}
-use mathlib.Core.List.{List, [], _∷_, map, List·Memᴰ·head, List·Memᴰ·tail}
+use mathlib.Core.Path.{_≡_, sym, ap, ap₂, _∙_, subst}
+use mathlib.Core.List.{List, map}
 use Prim.Native.Nat.{ℕ, zero, suc, _-_, _*_, _^_, _≤_, _<_}
 use native.Mathlib.Omega.{arith}
 use lib.ListN.{length, getD, take}
 use lib.Pow.{pow-mono}
 use lib.Seq.{getD-take, length-take-le}
-use Rattle.ctl.specs.Lists.{_∈_}
+use Rattle.ctl.proofs.ListLaws.{getD-in}
 use Rattle.ctl.specs.Positive.{positive}
 use Rattle.ctl.specs.Tableau.{Tableau, namePlaces, namings, otherPlaces}
 use Rattle.wordset.specs.Words.{packed}
@@ -30,11 +30,6 @@ use Rattle.frame.specs.Framed.{Framed, FramedAs, Frames, Given}
 use Rattle.frame.proofs.CopyLaws.{few-bits}
 
 -- ---- lists and numbers
-
-place-in : (l : List ℕ) (i : ℕ) → i < length l → getD l i 0 ∈ l
-place-in [] i h = absurd (omega arith)
-place-in (p ∷ l) zero h = List·Memᴰ·head refl
-place-in (p ∷ l) (suc i) h = List·Memᴰ·tail (place-in l i (omega arith))
 
 -- at most 4 words for each of at most 128 members
 truth-room : (n w m : ℕ) → n ≤ 128 → w ≤ 4 → 512 ≤ m → n * w ≤ m
@@ -121,8 +116,8 @@ module _ (s : List ℕ) (r : Reading) (x : Says s r) (z : readRefusal s ≡ 0) w
         record {
           names-few = names-two s;
           others-few = omega arith;
-          names-in = λ i h. (let b = name-below s (getD (namePlaces S) i 0) (place-in (namePlaces S) i h) in omega arith);
-          others-in = λ i h. (let b = other-below s (getD (otherPlaces S) i 0) (place-in (otherPlaces S) i h) in omega arith);
+          names-in = λ i h. (let b = name-below s (getD (namePlaces S) i 0) (getD-in 0 (namePlaces S) i h) in omega arith);
+          others-in = λ i h. (let b = other-below s (getD (otherPlaces S) i 0) (getD-in 0 (otherPlaces S) i h) in omega arith);
         }
 
     split-places : Places (take (q .names) names′) (take (q .others) others′)

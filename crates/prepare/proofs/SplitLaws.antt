@@ -2,36 +2,16 @@
 use mathlib.Core.Path.{_≡_, refl, sym, ap, ap₂, _∙_}
 use mathlib.Core.Bool.{Bool, true, false, cond, not, _&&_}
 use mathlib.Core.List.{List, [], _∷_, _++_, append-nil}
-use Prim.Native.Nat.{ℕ, zero, suc, _+_, _≤_, _<_}
+use Prim.Native.Nat.{ℕ, suc, _+_, _≤_, _<_}
 use native.Mathlib.Omega.{arith}
 use lib.ListN.{length, getD, set, drop, length-append, length-set, List·getD-eq-default}
 use lib.Seq.{append-snoc, drop-cons, set-at}
 use lib.Dec.{eqb}
 use borrow.Author.Tests.{eq-eqb, ne-eqb}
-use Rattle.ctl.specs.Lists.{keep, below, countFrom, put}
+use Rattle.ctl.proofs.ListLaws.{keep-next}
+use Rattle.ctl.specs.Lists.{keep, below}
 use Rattle.closure.specs.Members.{argW, tagW}
 use Rattle.prepare.specs.Split.{nameAt, nameWord, namesIn, othersIn, SplitIs}
-
--- ---- the numbers below k + 1 that pass a test
-
-count-snoc : (a n : ℕ) → countFrom a (suc n) ≡ countFrom a n ++ ((a + n) ∷ [])
-count-snoc a zero = ap (λ i. i ∷ []) (omega arith)
-count-snoc a (suc n) = ap (λ l. a ∷ l) (count-snoc (suc a) n ∙ ap (λ i. countFrom (suc a) n ++ (i ∷ [])) (omega arith))
-
-keep-snoc : (P : ℕ → Bool) (l : List ℕ) (x : ℕ) → keep P (l ++ (x ∷ [])) ≡ keep P l ++ put (P x) x []
-keep-snoc P [] x = refl
-keep-snoc P (y ∷ l) x = go (P y) (keep-snoc P l x)
-  where
-    go : (b : Bool) → keep P (l ++ (x ∷ [])) ≡ keep P l ++ put (P x) x [] → put b y (keep P (l ++ (x ∷ []))) ≡ put b y (keep P l) ++ put (P x) x []
-    go true e = ap (λ k. y ∷ k) e
-    go false e = e
-
-keep-next : (P : ℕ → Bool) (k : ℕ) (b : Bool) → b ≡ P k → keep P (below (k + 1)) ≡ keep P (below k) ++ put b k []
-keep-next P k b e =
-    ap (λ i. keep P (below i)) (let h : k + 1 ≡ suc k = omega arith in h)
-    ∙ ap (keep P) (count-snoc 0 k ∙ ap (λ i. below k ++ (i ∷ [])) (let h : 0 + k ≡ k = omega arith in h))
-    ∙ keep-snoc P (below k) k
-    ∙ ap (λ c. keep P (below k) ++ put c k []) (sym e)
 
 -- ---- a store after k turns of `most`
 

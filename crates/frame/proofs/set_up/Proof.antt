@@ -1,31 +1,20 @@
 use denote.Struct.Field.{u8-field, usize-field}
 use Rattle.frame.proofs.SetUpLaws.{count-within, formulas-within, frame-asked, setup-accepted, setup-refused, symbols-within, width-within}
-use mathlib.Core.Path.{_≡_, refl, sym}
-use lib.ListN.{length}
+use mathlib.Core.Path.{refl, sym}
 use lib.Seq.{length-take-le}
 use borrow.Author.Needs.{needs, length-unmapped}
 use Rattle.frame.proofs.set_up.Statement.{statement}
 use Rattle.frame.proofs.set_up.Tie as tie
-use Rattle.frame.proofs.set_up.Reads as reads
-use Rattle.frame.proofs.set_up.Lts as lts
-use Rattle.frame.proofs.frame_of.Reads as frame-of-reads
-use Rattle.frame.proofs.nothing.Reads as nothing-reads
-use Rattle.reader.proofs.number.Reads as number-reads
-use Rattle.reader.proofs.read.Reads as read-reads
 
--- src/lib.rt:116:9
 read-requires : tie.Need-read-requires
 read-requires c κs = search needs
 
--- src/lib.rt:118:9
 number-requires : tie.Need-number-requires
 number-requires c κs = search needs
 
--- src/lib.rt:120:9
 nothing-requires : tie.Need-nothing-requires
 nothing-requires c κs = search needs
 
--- src/lib.rt:120:9
 returns : tie.Need-returns
 returns c =
     let b1 = c .before in
@@ -33,7 +22,6 @@ returns c =
     let b3 = b2 .before in
     setup-refused (b3 .read .ensures) (b2 .number .ensures) (b1 .if1 .taken) (c .nothing .ensures)
 
--- src/lib.rt:134:9
 array-share-prefix-members : tie.Need-array-share-prefix-members
 array-share-prefix-members c =
     let b4 = c .before .before .before .before in
@@ -41,7 +29,6 @@ array-share-prefix-members c =
     let b6 = b5 .before in
     count-within (b6 .read .ensures) (b5 .number .ensures) (b4 .if1 .left)
 
--- src/lib.rt:134:9
 slice-aggregate-frame-of : tie.Need-slice-aggregate-frame-of
 slice-aggregate-frame-of c =
     let b5 = c .before .before .before .before .before in
@@ -49,7 +36,6 @@ slice-aggregate-frame-of c =
     let b7 = b6 .before in
     sym (length-take-le _ _ (count-within (b7 .read .ensures) (b6 .number .ensures) (b5 .if1 .left)))
 
--- src/lib.rt:135:9
 array-share-prefix-lean : tie.Need-array-share-prefix-lean
 array-share-prefix-lean c =
     let b5 = c .before .before .before .before .before in
@@ -57,7 +43,6 @@ array-share-prefix-lean c =
     let b7 = b6 .before in
     width-within (b7 .read .ensures) (b6 .number .ensures) (b5 .if1 .left)
 
--- src/lib.rt:135:9
 slice-aggregate-frame-of-2 : tie.Need-slice-aggregate-frame-of-2
 slice-aggregate-frame-of-2 c =
     let b6 = c .before .before .before .before .before .before in
@@ -65,7 +50,6 @@ slice-aggregate-frame-of-2 c =
     let b8 = b7 .before in
     sym (length-take-le _ _ (width-within (b8 .read .ensures) (b7 .number .ensures) (b6 .if1 .left)))
 
--- src/lib.rt:136:9
 array-share-prefix-kinds : tie.Need-array-share-prefix-kinds
 array-share-prefix-kinds c =
     let b6 = c .before .before .before .before .before .before in
@@ -73,7 +57,6 @@ array-share-prefix-kinds c =
     let b8 = b7 .before in
     symbols-within (b8 .read .ensures) (b7 .number .ensures) (b6 .if1 .left) (length-unmapped (u8-field .Value) (b8 .read .result .letters) 8 (b8 .read .ok .1 .1 .1 .1 .0 .1 .0 .1)) (length-unmapped (u8-field .Value) (b8 .read .result .kinds) 8 (b8 .read .ok .1 .1 .1 .1 .1 .0 .1 .0 .1))
 
--- src/lib.rt:136:9
 slice-aggregate-frame-of-3 : tie.Need-slice-aggregate-frame-of-3
 slice-aggregate-frame-of-3 c =
     let b7 = c .before .before .before .before .before .before .before in
@@ -81,7 +64,6 @@ slice-aggregate-frame-of-3 c =
     let b9 = b8 .before in
     sym (length-take-le _ _ (symbols-within (b9 .read .ensures) (b8 .number .ensures) (b7 .if1 .left) (length-unmapped (u8-field .Value) (b9 .read .result .letters) 8 (b9 .read .ok .1 .1 .1 .1 .0 .1 .0 .1)) (length-unmapped (u8-field .Value) (b9 .read .result .kinds) 8 (b9 .read .ok .1 .1 .1 .1 .1 .0 .1 .0 .1))))
 
--- src/lib.rt:137:9
 array-share-prefix-places : tie.Need-array-share-prefix-places
 array-share-prefix-places c =
     let b7 = c .before .before .before .before .before .before .before in
@@ -89,7 +71,6 @@ array-share-prefix-places c =
     let b9 = b8 .before in
     formulas-within (b9 .read .ensures) (b8 .number .ensures) (b7 .if1 .left) (length-unmapped (usize-field .Value) (b9 .read .result .places) 5 (b9 .read .ok .1 .1 .1 .1 .1 .1 .1 .0 .1 .0 .1))
 
--- src/lib.rt:137:9
 slice-aggregate-frame-of-4 : tie.Need-slice-aggregate-frame-of-4
 slice-aggregate-frame-of-4 c =
     let b8 = c .before .before .before .before .before .before .before .before in
@@ -97,19 +78,15 @@ slice-aggregate-frame-of-4 c =
     let b10 = b9 .before in
     sym (length-take-le _ _ (formulas-within (b10 .read .ensures) (b9 .number .ensures) (b8 .if1 .left) (length-unmapped (usize-field .Value) (b10 .read .result .places) 5 (b10 .read .ok .1 .1 .1 .1 .1 .1 .1 .0 .1 .0 .1))))
 
--- src/lib.rt:140:9
 slice-aggregate-frame-of-5 : tie.Need-slice-aggregate-frame-of-5
 slice-aggregate-frame-of-5 c = search needs
 
--- src/lib.rt:141:9
 slice-aggregate-frame-of-6 : tie.Need-slice-aggregate-frame-of-6
 slice-aggregate-frame-of-6 c = search needs
 
--- src/lib.rt:142:9
 slice-aggregate-frame-of-7 : tie.Need-slice-aggregate-frame-of-7
 slice-aggregate-frame-of-7 c = search needs
 
--- src/lib.rt:133:9
 frame-of-requires : tie.Need-frame-of-requires
 frame-of-requires c κs =
     let b13 = c .before .before .before .before .before .before .before .before .before .before .before .before .before in
@@ -118,15 +95,12 @@ frame-of-requires c κs =
     let b19 = b15 .before .before .before .before in
     frame-asked (b15 .read .ensures) (b14 .number .ensures) (b13 .if1 .left) (length-unmapped (usize-field .Value) (b15 .read .result .places) 5 (b15 .read .ok .1 .1 .1 .1 .1 .1 .1 .0 .1 .0 .1)) (b19 .pre) refl refl refl
 
--- src/lib.rt:112:1
 same-length : tie.Need-same-length
 same-length c = search needs
 
--- src/lib.rt:112:1
 same-length-2 : tie.Need-same-length-2
 same-length-2 c = search needs
 
--- src/lib.rt:112:1
 returns-2 : tie.Need-returns-2
 returns-2 c =
     let b7 = c .before .before .before .before .before .before .before in
