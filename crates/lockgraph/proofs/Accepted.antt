@@ -1,9 +1,9 @@
 -- What the set-up of a sheet that is not refused gives to every operation. Assumes nothing.
-use mathlib.Core.Path.{_≡_, refl, sym, ap, _∙_, subst}
+use mathlib.Core.Path.{_≡_, sym, ap, _∙_, subst}
 use mathlib.Core.List.{List}
 use Prim.Native.Nat.{ℕ, _*_, _/_, _^_, _≤_, _<_, max}
 use native.Mathlib.Omega.{arith}
-use lib.ListN.{length, length-map, replicate, take}
+use lib.ListN.{length, length-map, replicate}
 use Rattle.ctl.specs.Positive.{positive}
 use Rattle.ctl.specs.Tableau.{Tableau, namings, startTypes}
 use Rattle.ctl.specs.Verdict as Ctl

@@ -1,6 +1,6 @@
 -- What Book answers and leaves at each of its returns. Assumes nothing.
 use mathlib.Core.Path.{_≡_, refl, sym, ap, ap₂, _∙_}
-use mathlib.Core.Bool.{Bool, cond}
+use mathlib.Core.Bool.{cond}
 use mathlib.Core.List.{List, _++_}
 use Prim.Native.Nat.{ℕ, zero, suc, _*_, _^_, _≤_, _<_}
 use native.Mathlib.Omega.{arith}
@@ -15,8 +15,7 @@ use Rattle.booking.proofs.BookLaws.{tables-ext}
 use Rattle.reader.specs.Reader.{refusalOf}
 use Rattle.frame.specs.SetUp.{SetUp, leanIn, membersIn, namesIn, othersIn}
 use Rattle.frame.specs.declared.Setup.{Setup}
-use Rattle.lockgraph.specs.declared.BookAnswer.{BookAnswer}
-use Rattle.lockgraph.specs.declared.BookAnswer.the-variants.{Done, Refused}
+use Rattle.lockgraph.specs.declared.books.BookAnswer.the-variants.{Done, Refused}
 use Rattle.lockgraph.specs.Outcomes.{BookIs, bookAnswer, bookRefusal, bookStore, namingsIn, storeRefusal, survivorsIn, wordsIn}
 use Rattle.lockgraph.proofs.Accepted.{few-namings, few-words, namings-are, not-refused, survivors-are, words-are}
 use Rattle.lockgraph.proofs.RefusalLaws.{else-first, else-next}

@@ -10,22 +10,22 @@ use Rattle.ctl.specs.Lists.{_∈_, elem}
 use Rattle.ctl.specs.Positive.{positive}
 use Rattle.ctl.specs.Tableau.{startTypes}
 use Rattle.ctl.specs.Verdict as Ctl
-use Rattle.ctl.specs.Verdict.{ClosedIn, HasGoal, roundsOf, survivingTypes}
+use Rattle.ctl.specs.Verdict.{roundsOf, survivingTypes}
 use Rattle.ctl.proofs.BoolLaws.{T-cast, T-cast⁻}
 use Rattle.ctl.proofs.Demand3.{demand-3}
 use Rattle.ctl.proofs.ListLaws.{elem-in, elem-out}
 use Rattle.ctl.proofs.VerdictLaws.{open-some, surviving-iff}
-use Rattle.wordset.specs.Words.{member, packed}
+use Rattle.wordset.specs.Words.{member}
 use Rattle.wordset.proofs.WordLaws.{member-packed}
 use Rattle.sheet.specs.Reading.{formulas, globalsOf, goalOf, isName, letterOf}
 use Rattle.reader.specs.Reader.{refusalOf}
 use Rattle.prepare.specs.Prepared.{tableauIn}
 use Rattle.frame.specs.SetUp.{SetUp}
 use Rattle.frame.specs.declared.Setup.{Setup}
-use Rattle.lockgraph.specs.declared.TableAnswer.{TableAnswer}
-use Rattle.lockgraph.specs.declared.TableAnswer.the-variants as Table
-use Rattle.lockgraph.specs.declared.VerdictAnswer.{VerdictAnswer}
-use Rattle.lockgraph.specs.declared.VerdictAnswer.the-variants as Judging
+use Rattle.lockgraph.specs.declared.tables.TableAnswer.{TableAnswer}
+use Rattle.lockgraph.specs.declared.tables.TableAnswer.the-variants as Table
+use Rattle.lockgraph.specs.declared.verdicts.VerdictAnswer.{VerdictAnswer}
+use Rattle.lockgraph.specs.declared.verdicts.VerdictAnswer.the-variants as Judging
 use Rattle.lockgraph.specs.Outcomes.{TableIs, holding, tableAnswer, tableRefusal, tableStore, verdictAnswer, verdictBy, verdictIn, verdictOf, wordsIn}
 use Rattle.lockgraph.specs.Demands.{StandsByClosed, TableDemand2, TableDemand3, Tells, VerdictDemand2, VerdictDemand3, WholeClaim, tells-open, tells-unsatisfiable}
 use Rattle.lockgraph.proofs.Accepted.{few-words, types-within, words-are}

@@ -5,3 +5,4 @@ pub mod BookingLaws
 pub mod VerdictLaws
 pub mod ListingLaws
 pub mod DemandLaws
+pub mod Graphs

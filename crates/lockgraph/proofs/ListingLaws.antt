@@ -12,8 +12,7 @@ use Rattle.tableau.proofs.ListWords.{list-ascend}
 use Rattle.listing.specs.Listed.{EachOnce, Listed}
 use Rattle.listing.proofs.ListedLaws.{ascending-once, listed-front, listed-rest}
 use Rattle.reader.specs.Reader.{refusalOf}
-use Rattle.lockgraph.specs.declared.ListAnswer.{ListAnswer}
-use Rattle.lockgraph.specs.declared.ListAnswer.the-variants.{Done, Refused}
+use Rattle.lockgraph.specs.declared.lists.ListAnswer.the-variants.{Done, Refused}
 use Rattle.lockgraph.specs.Outcomes.{ListIs, listAnswer, listRefusal, namingRefusal, namingsIn, orElse, storeRefusal, survivorsIn}
 use Rattle.lockgraph.proofs.RefusalLaws.{else-first, else-next, else-none}
 

@@ -1,18 +1,16 @@
 -- The lowest of several refusals. Assumes nothing.
-use mathlib.Core.Path.{_≡_, refl, sym, ap, ap₂, _∙_, subst}
-use mathlib.Core.Bool.{Bool, true, false, cond}
+use mathlib.Core.Path.{_≡_, refl, sym, ap, ap₂, _∙_}
+use mathlib.Core.Bool.{cond}
 use mathlib.Core.List.{List}
 use mathlib.Core.Logic.{_⊎_, inl, inr}
 use Prim.Native.Nat.{ℕ, zero, suc, _≤_, _<_}
 use native.Mathlib.Omega.{arith}
-use lib.Dec.{eqb, ltb}
-use lib.ListN.{length}
 use borrow.Author.Tests.{eq-eqb, le-ltb, lt-ltb, ne-eqb}
 use Rattle.wordset.proofs.BelowLaws.{lt-or-le}
 use Rattle.reader.specs.Reader.{refusalOf}
 use Rattle.frame.specs.SetUp.{SetUp}
 use Rattle.frame.specs.declared.Setup.{Setup}
-use Rattle.lockgraph.specs.Outcomes.{listRefusal, namingRefusal, namingsIn, orElse, storeRefusal, survivorsIn, tableRefusal}
+use Rattle.lockgraph.specs.Outcomes.{namingRefusal, namingsIn, orElse, storeRefusal, tableRefusal}
 use Rattle.lockgraph.proofs.Accepted.{namings-are}
 
 -- ---- a number, or the next

@@ -1,6 +1,6 @@
 -- What Table answers and leaves at each of its returns, and the part that it hands back. Assumes nothing.
-use mathlib.Core.Path.{_≡_, refl, sym, ap, _∙_, subst}
-use mathlib.Core.Bool.{Bool, cond}
+use mathlib.Core.Path.{_≡_, refl, sym, ap, _∙_}
+use mathlib.Core.Bool.{cond}
 use mathlib.Core.List.{List}
 use Prim.Native.Nat.{ℕ, zero, suc, _%_}
 use lib.ListN.{length, take}
@@ -10,8 +10,8 @@ use Rattle.ctl.specs.Verdict.{roundsOf, survivingTypes}
 use Rattle.tableau.specs.Tabled.{Tabled}
 use Rattle.tableau.specs.declared.table.Counts.{Counts}
 use Rattle.prepare.specs.Prepared.{tableauIn}
-use Rattle.lockgraph.specs.declared.TableAnswer.{TableAnswer}
-use Rattle.lockgraph.specs.declared.TableAnswer.the-variants.{Done, Refused}
+use Rattle.lockgraph.specs.declared.tables.TableAnswer.{TableAnswer}
+use Rattle.lockgraph.specs.declared.tables.TableAnswer.the-variants.{Done, Refused}
 use Rattle.lockgraph.specs.Outcomes.{TableIs, holding, partOf, placeOf, tableAnswer, tableRefusal, tableStore, wordsIn}
 
 module _ (s : List ℕ) (r : ℕ) where

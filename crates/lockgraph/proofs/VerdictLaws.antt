@@ -5,14 +5,13 @@ use Prim.Native.Nat.{ℕ, zero, suc}
 use Rattle.ctl.specs.Positive.{positive}
 use Rattle.ctl.specs.Verdict as Ctl
 use Rattle.sheet.specs.Reading.{formulas, goalOf}
-use Rattle.reader.specs.Reader.{refusalOf}
 use Rattle.prepare.specs.Prepared.{tableauIn}
 use Rattle.judge.specs.Judged as Judged
 use Rattle.judge.specs.declared.Verdict.{Verdict}
 use Rattle.frame.specs.SetUp.{SetUp}
 use Rattle.frame.specs.declared.Setup.{Setup}
-use Rattle.lockgraph.specs.declared.VerdictAnswer.{VerdictAnswer}
-use Rattle.lockgraph.specs.declared.VerdictAnswer.the-variants.{Refused}
+use Rattle.lockgraph.specs.declared.verdicts.VerdictAnswer.{VerdictAnswer}
+use Rattle.lockgraph.specs.declared.verdicts.VerdictAnswer.the-variants.{Refused}
 use Rattle.lockgraph.specs.Outcomes.{verdictAnswer, verdictBy, verdictIn, verdictOf}
 use Rattle.lockgraph.proofs.Accepted.{not-refused}
 

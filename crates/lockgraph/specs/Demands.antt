@@ -5,7 +5,6 @@ use mathlib.Core.Logic.{_↔_}
 use mathlib.Core.List.{List}
 use Prim.Native.Nat.{ℕ, _-_, _*_, _≤_, _<_}
 use lib.Dec.{T}
-use lib.ListN.{length}
 use Rattle.ctl.specs.Lists.{_∈_}
 use Rattle.ctl.specs.Positive.{positive}
 use Rattle.ctl.specs.Snapshot.{Snapshot, NamesSingle}
@@ -19,10 +18,10 @@ use Rattle.wordset.specs.Words.{member}
 use Rattle.sheet.specs.Reading.{formulas, globalsOf, goalOf, isName, letterOf}
 use Rattle.reader.specs.Reader.{refusalOf}
 use Rattle.prepare.specs.Prepared.{tableauIn}
-use Rattle.lockgraph.specs.declared.TableAnswer.{TableAnswer}
-use Rattle.lockgraph.specs.declared.TableAnswer.the-variants as Table
-use Rattle.lockgraph.specs.declared.VerdictAnswer.{VerdictAnswer}
-use Rattle.lockgraph.specs.declared.VerdictAnswer.the-variants as Judging
+use Rattle.lockgraph.specs.declared.tables.TableAnswer.{TableAnswer}
+use Rattle.lockgraph.specs.declared.tables.TableAnswer.the-variants as Table
+use Rattle.lockgraph.specs.declared.verdicts.VerdictAnswer.{VerdictAnswer}
+use Rattle.lockgraph.specs.declared.verdicts.VerdictAnswer.the-variants as Judging
 use Rattle.lockgraph.specs.Outcomes.{namingsIn}
 
 -- ---- Demand 2

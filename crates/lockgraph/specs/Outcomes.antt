@@ -1,6 +1,6 @@
 -- What each operation answers and leaves, from its arguments: the sheet's bytes, the number of a naming, and the stores as they were. Assumes nothing.
 use mathlib.Core.Path.{_≡_}
-use mathlib.Core.Bool.{Bool, cond, _||_}
+use mathlib.Core.Bool.{cond}
 use mathlib.Core.List.{List, [], _++_}
 use Prim.Native.Nat.{ℕ, zero, suc, _*_, _/_, _%_, _^_, max}
 use lib.Dec.{eqb, ltb}
@@ -16,14 +16,14 @@ use Rattle.reader.specs.Reader.{refusalOf}
 use Rattle.prepare.specs.Prepared.{tableauIn}
 use Rattle.booking.specs.Booked.{tablesBy}
 use Rattle.listing.specs.Listed.{EachOnce}
-use Rattle.lockgraph.specs.declared.TableAnswer.{TableAnswer}
-use Rattle.lockgraph.specs.declared.TableAnswer.the-variants as Table
-use Rattle.lockgraph.specs.declared.BookAnswer.{BookAnswer}
-use Rattle.lockgraph.specs.declared.BookAnswer.the-variants as Book
-use Rattle.lockgraph.specs.declared.ListAnswer.{ListAnswer}
-use Rattle.lockgraph.specs.declared.ListAnswer.the-variants as Listing
-use Rattle.lockgraph.specs.declared.VerdictAnswer.{VerdictAnswer}
-use Rattle.lockgraph.specs.declared.VerdictAnswer.the-variants as Judging
+use Rattle.lockgraph.specs.declared.tables.TableAnswer.{TableAnswer}
+use Rattle.lockgraph.specs.declared.tables.TableAnswer.the-variants as Table
+use Rattle.lockgraph.specs.declared.books.BookAnswer.{BookAnswer}
+use Rattle.lockgraph.specs.declared.books.BookAnswer.the-variants as Book
+use Rattle.lockgraph.specs.declared.lists.ListAnswer.{ListAnswer}
+use Rattle.lockgraph.specs.declared.lists.ListAnswer.the-variants as Listing
+use Rattle.lockgraph.specs.declared.verdicts.VerdictAnswer.{VerdictAnswer}
+use Rattle.lockgraph.specs.declared.verdicts.VerdictAnswer.the-variants as Judging
 
 -- ---- what an accepted sheet has
 

@@ -3,4 +3,3 @@ pub mod SplitLaws
 pub mod SplitBridge
 pub mod WidthLaws
 pub mod NameCount
-pub mod Graphs

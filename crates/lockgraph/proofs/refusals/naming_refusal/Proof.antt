@@ -2,8 +2,6 @@
 use borrow.Author.Tests.{le-ltb, lt-ltb}
 use Rattle.lockgraph.proofs.refusals.naming_refusal.Statement.{statement}
 use Rattle.lockgraph.proofs.refusals.naming_refusal.Tie as tie
-use Rattle.lockgraph.proofs.refusals.naming_refusal.Reads as reads
-use Rattle.lockgraph.proofs.refusals.naming_refusal.Lts as lts
 
 returns : tie.Need-returns
 returns c = rw (lt-ltb _ _ (c .if1 .taken))

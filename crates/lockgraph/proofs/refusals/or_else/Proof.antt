@@ -2,8 +2,6 @@
 use borrow.Author.Tests.{eq-eqb, ne-eqb}
 use Rattle.lockgraph.proofs.refusals.or_else.Statement.{statement}
 use Rattle.lockgraph.proofs.refusals.or_else.Tie as tie
-use Rattle.lockgraph.proofs.refusals.or_else.Reads as reads
-use Rattle.lockgraph.proofs.refusals.or_else.Lts as lts
 
 returns : tie.Need-returns
 returns c = rw (eq-eqb _ _ (c .if1 .taken))

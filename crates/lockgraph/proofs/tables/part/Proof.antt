@@ -2,11 +2,8 @@
 use Rattle.lockgraph.proofs.TableLaws.{part-even, part-odd}
 use mathlib.Core.Path.{_∙_}
 use borrow.Author.Needs.{needs}
-use Rattle.lockgraph.proofs.part.Statement.{statement}
-use Rattle.lockgraph.proofs.part.Tie as tie
-use Rattle.lockgraph.proofs.part.Reads as reads
-use Rattle.lockgraph.proofs.part.Lts as lts
-use Rattle.lockgraph.proofs.front.Reads as front-reads
+use Rattle.lockgraph.proofs.tables.part.Statement.{statement}
+use Rattle.lockgraph.proofs.tables.part.Tie as tie
 
 enum-told : tie.Need-enum-told
 enum-told c = search needs

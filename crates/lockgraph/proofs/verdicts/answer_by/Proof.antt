@@ -3,10 +3,8 @@ use mathlib.Core.Path.{ap, sym}
 use Rattle.judge.specs.Judged as Judged
 use Rattle.lockgraph.specs.Outcomes.{verdictBy}
 use borrow.Author.Needs.{needs}
-use Rattle.lockgraph.proofs.answer_by.Statement.{statement}
-use Rattle.lockgraph.proofs.answer_by.Tie as tie
-use Rattle.lockgraph.proofs.answer_by.Reads as reads
-use Rattle.lockgraph.proofs.answer_by.Lts as lts
+use Rattle.lockgraph.proofs.verdicts.answer_by.Statement.{statement}
+use Rattle.lockgraph.proofs.verdicts.answer_by.Tie as tie
 
 enum-known-v : tie.Need-enum-known-v
 enum-known-v c = search needs

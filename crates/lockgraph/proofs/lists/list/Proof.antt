@@ -1,20 +1,13 @@
 -- `list` meets its contract. Assumes nothing.
-use mathlib.Core.Path.{refl, sym}
+use mathlib.Core.Path.{sym}
 use lib.ListN.{replicate}
 use lib.Seq.{length-take-le}
 use Rattle.lockgraph.proofs.Accepted.{few-words, fill-asked, four, lean-within, members-within, names-within, others-within, store-lists, table-filled}
 use Rattle.lockgraph.proofs.RefusalLaws.{naming-number, set-up-zero}
 use Rattle.lockgraph.proofs.ListingLaws.{list-done, list-refused, list-room, list-short}
 use borrow.Author.Needs.{needs}
-use Rattle.lockgraph.proofs.list.Statement.{statement}
-use Rattle.lockgraph.proofs.list.Tie as tie
-use Rattle.lockgraph.proofs.list.Reads as reads
-use Rattle.lockgraph.proofs.list.Lts as lts
-use Rattle.frame.proofs.set_up.Reads as set-up-reads
-use Rattle.judge.proofs.fill_table.Reads as fill-table-reads
-use Rattle.listing.proofs.list_members.Reads as list-members-reads
-use Rattle.lockgraph.proofs.refusals.naming_refusal.Reads as naming-refusal-reads
-use Rattle.lockgraph.proofs.refusals.or_else.Reads as or-else-reads
+use Rattle.lockgraph.proofs.lists.list.Statement.{statement}
+use Rattle.lockgraph.proofs.lists.list.Tie as tie
 
 slice-aggregate-set-up : tie.Need-slice-aggregate-set-up
 slice-aggregate-set-up c = search needs

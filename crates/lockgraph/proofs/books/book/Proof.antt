@@ -5,12 +5,8 @@ use lib.Seq.{length-take-le}
 use Rattle.lockgraph.proofs.Accepted.{base-long, book-asked, lean-within, members-within, names-within, others-within}
 use Rattle.lockgraph.proofs.BookingLaws.{book-done, book-refused, book-short, needed-fits}
 use borrow.Author.Needs.{needs}
-use Rattle.lockgraph.proofs.book.Statement.{statement}
-use Rattle.lockgraph.proofs.book.Tie as tie
-use Rattle.lockgraph.proofs.book.Reads as reads
-use Rattle.lockgraph.proofs.book.Lts as lts
-use Rattle.booking.proofs.fill_book.Reads as fill-book-reads
-use Rattle.frame.proofs.set_up.Reads as set-up-reads
+use Rattle.lockgraph.proofs.books.book.Statement.{statement}
+use Rattle.lockgraph.proofs.books.book.Tie as tie
 
 slice-aggregate-set-up : tie.Need-slice-aggregate-set-up
 slice-aggregate-set-up c = search needs

@@ -3,10 +3,8 @@ use mathlib.Core.Path.{refl, sym}
 use native.Mathlib.Omega.{arith}
 use lib.Seq.{length-take-le, take-all}
 use borrow.Author.Needs.{needs}
-use Rattle.lockgraph.proofs.front.Statement.{statement}
-use Rattle.lockgraph.proofs.front.Tie as tie
-use Rattle.lockgraph.proofs.front.Reads as reads
-use Rattle.lockgraph.proofs.front.Lts as lts
+use Rattle.lockgraph.proofs.tables.front.Statement.{statement}
+use Rattle.lockgraph.proofs.tables.front.Tie as tie
 
 slice-aggregate-result : tie.Need-slice-aggregate-result
 slice-aggregate-result c = sym (length-take-le (c .before .before .args .w) (c .before .before .args .store .now) (omega arith))

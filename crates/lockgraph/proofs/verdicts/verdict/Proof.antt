@@ -5,13 +5,8 @@ use Rattle.lockgraph.proofs.Accepted.{judge-asked, judged, lean-within,
 use Rattle.lockgraph.proofs.VerdictLaws.{verdict-judged, verdict-refused}
 use Rattle.lockgraph.proofs.DemandLaws.{verdict-demand-2, verdict-demand-3}
 use borrow.Author.Needs.{needs}
-use Rattle.lockgraph.proofs.verdict.Statement.{statement}
-use Rattle.lockgraph.proofs.verdict.Tie as tie
-use Rattle.lockgraph.proofs.verdict.Reads as reads
-use Rattle.lockgraph.proofs.verdict.Lts as lts
-use Rattle.frame.proofs.set_up.Reads as set-up-reads
-use Rattle.judge.proofs.judge.Reads as judge-reads
-use Rattle.lockgraph.proofs.answer_by.Reads as answer-by-reads
+use Rattle.lockgraph.proofs.verdicts.verdict.Statement.{statement}
+use Rattle.lockgraph.proofs.verdicts.verdict.Tie as tie
 
 slice-aggregate-set-up : tie.Need-slice-aggregate-set-up
 slice-aggregate-set-up c = search needs

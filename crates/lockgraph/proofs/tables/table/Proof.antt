@@ -6,15 +6,8 @@ use Rattle.lockgraph.proofs.RefusalLaws.{set-up-zero, table-number, tab
 use Rattle.lockgraph.proofs.TableLaws.{table-done, table-refused}
 use Rattle.lockgraph.proofs.DemandLaws.{set-up-wide, table-demand-2, table-demand-3}
 use borrow.Author.Needs.{needs}
-use Rattle.lockgraph.proofs.table.Statement.{statement}
-use Rattle.lockgraph.proofs.table.Tie as tie
-use Rattle.lockgraph.proofs.table.Reads as reads
-use Rattle.lockgraph.proofs.table.Lts as lts
-use Rattle.frame.proofs.set_up.Reads as set-up-reads
-use Rattle.judge.proofs.fill_table.Reads as fill-table-reads
-use Rattle.lockgraph.proofs.refusals.naming_refusal.Reads as naming-refusal-reads
-use Rattle.lockgraph.proofs.refusals.or_else.Reads as or-else-reads
-use Rattle.lockgraph.proofs.refusals.store_refusal.Reads as store-refusal-reads
+use Rattle.lockgraph.proofs.tables.table.Statement.{statement}
+use Rattle.lockgraph.proofs.tables.table.Tie as tie
 
 slice-aggregate-set-up : tie.Need-slice-aggregate-set-up
 slice-aggregate-set-up c = search needs
