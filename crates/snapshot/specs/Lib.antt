@@ -1,0 +1,4 @@
+pub mod Store
+pub mod Text
+pub mod Read
+pub mod Answered

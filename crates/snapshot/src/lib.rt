@@ -1,0 +1,44 @@
+// A snapshot's text, read into a store of entries: the entry of symbol k at node i is at place 8 * i + k. The kinds of the symbols, in line 1
+// order, are 1 for a mark, 2 for a name and 3 for a field. Assumes nothing.
+mod entries;
+mod text;
+
+ghost use mathlib.Core.Path.{_≡_};
+ghost use Prim.Native.Nat.{_*_, _≤_};
+ghost use lib.ListN.{length};
+ghost use Rattle.snapshot.specs.Read.{lineStore, judged, readSnapshot, Few};
+
+// The number of the refusal, or the node count.
+pub enum Answer {
+    Refused(u8),
+    Nodes(usize),
+}
+
+// The answer on the node count, 0 for text that is no snapshot's, and the entries.
+fn judge(kinds: &[u8], n: usize, out: &[u8]) -> Answer
+    requires { ⌜ (length (now kinds) ≤ 8) × (n * 8 ≤ length (now out)) ⌝ }
+    ensures { λ r. ⌜ r ≡ judged (now (kinds .entry)) n (now (out .entry)) ⌝ }
+{
+    if n == 0 {
+        return Answer::Refused(13);
+    }
+    if !entries::all_fit(kinds, n, out) {
+        return Answer::Refused(14);
+    }
+    if entries::some_twice(kinds, n, out) {
+        return Answer::Refused(15);
+    }
+    Answer::Nodes(n)
+}
+
+// The answer on the text s under line 1 and the kinds of its symbols. The entries go to the store, which is as it was where s is too long or
+// does not begin with line 1.
+pub fn read(line: &[u8], kinds: &[u8], s: &[u8], out: &mut [u8]) -> Answer
+    requires { ⌜ (length (now kinds) ≤ 8) × (128 ≤ length (now out)) ⌝ }
+    ensures { λ r. ⌜ r ≡ readSnapshot (now (line .entry)) (now (kinds .entry)) (now (s .entry)) (now (out .entry)) ⌝ }
+    ensures { λ r. ⌜ now (out .exit) ≡ lineStore (now (line .entry)) (length (now (kinds .entry))) (now (s .entry)) (now (out .entry)) ⌝ }
+    ensures { λ r. ⌜ Few r ⌝ }
+{
+    let n = text::lines(line, kinds.len(), s, out);
+    judge(kinds, n, out)
+}
