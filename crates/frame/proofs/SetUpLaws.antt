@@ -26,13 +26,13 @@ module _ {s : List ℕ} {r : Reading} (x : ReadIs 64 8 s r) {k : ℕ} (e : k ≡
   setup-refused h i = record { is = ap (λ q. q .refusal) i ∙ e ∙ x .is; accepts = λ z. absurd (h (e ∙ x .is ∙ z)) }
 
   module _ (none : k ≡ 0) where
-    zero-is : refusalOf s ≡ 0
+    pub zero-is : refusalOf s ≡ 0
     zero-is = sym (x .is) ∙ sym e ∙ none
 
-    says : Says s r
+    pub says : Says s r
     says = x .accepted zero-is
 
-    right : readRefusal s ≡ 0
+    pub right : readRefusal s ≡ 0
     right = within-zero 64 8 s zero-is
 
     pub count-within : r .count ≤ length (r .members)
@@ -47,7 +47,7 @@ module _ {s : List ℕ} {r : Reading} (x : ReadIs 64 8 s r) {k : ℕ} (e : k ≡
     pub symbols-within : length (r .letters) ≡ 8 → length (r .kinds) ≡ 8 → r .symbols ≤ length (r .kinds)
     symbols-within a b = let h = take-within (r .symbols) (r .letters) (ap length (says .letters-are) ∙ sym (says .symbols)) in omega arith
 
-    formulas-five : r .formulas ≤ 5
+    pub formulas-five : r .formulas ≤ 5
     formulas-five = let a = texts-five s right in let b = formulas-many s right in let c = says .many in omega arith
 
     pub formulas-within : length (r .places) ≡ 5 → r .formulas ≤ length (r .places)

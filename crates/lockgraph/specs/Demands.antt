@@ -1,13 +1,15 @@
--- Demands 2 and 3 of the workshop, as records over what Table and Verdict answer and leave. They speak of the formulas as typed, and of nodes through the meaning over
+-- Demands 2 and 3 of the workshop, as records over what Table, Verdict and Snapshot answer and leave. They speak of the formulas as typed, and of nodes through the meaning over
 -- maximal paths alone. Assumes nothing.
 use mathlib.Core.Path.{_≡_}
 use mathlib.Core.Logic.{_↔_}
 use mathlib.Core.List.{List}
-use Prim.Native.Nat.{ℕ, _-_, _*_, _≤_, _<_}
+use Prim.Native.Nat.{ℕ, _-_, _*_, _%_, _≤_, _<_}
 use lib.Dec.{T}
+use lib.ListN.{length, getD}
 use Rattle.ctl.specs.Lists.{_∈_}
 use Rattle.ctl.specs.Positive.{positive}
-use Rattle.ctl.specs.Snapshot.{Snapshot, NamesSingle}
+use Rattle.ctl.specs.Raw.{Raw}
+use Rattle.ctl.specs.Snapshot.{Snapshot, NamesSingle, ofLines}
 use Rattle.ctl.specs.Meaning.{HoldsRaw}
 use Rattle.ctl.specs.Tableau.{startTypes}
 use Rattle.ctl.specs.Verdict as Ctl
@@ -15,14 +17,19 @@ use Rattle.ctl.specs.Verdict.{ClosedIn, HasGoal, familyOf}
 use Rattle.ctl.specs.Demand3 as Whole
 use Rattle.ctl.specs.Demand3.{Fits, GlobalsHold, NodeType}
 use Rattle.wordset.specs.Words.{member}
+use Rattle.layout.specs.Layout.{kinds, lineOf}
+use Rattle.snapshot.specs.Answered.{Answered}
+use Rattle.snapshot.specs.Text.{Text}
 use Rattle.sheet.specs.Reading.{formulas, globalsOf, goalOf, isName, letterOf}
 use Rattle.reader.specs.Reader.{refusalOf}
 use Rattle.prepare.specs.Prepared.{tableauIn}
+use Rattle.lockgraph.specs.declared.snapshots.SnapshotAnswer.{SnapshotAnswer}
+use Rattle.lockgraph.specs.declared.snapshots.SnapshotAnswer.the-variants as Judged
 use Rattle.lockgraph.specs.declared.tables.TableAnswer.{TableAnswer}
 use Rattle.lockgraph.specs.declared.tables.TableAnswer.the-variants as Table
 use Rattle.lockgraph.specs.declared.verdicts.VerdictAnswer.{VerdictAnswer}
 use Rattle.lockgraph.specs.declared.verdicts.VerdictAnswer.the-variants as Judging
-use Rattle.lockgraph.specs.Outcomes.{namingsIn}
+use Rattle.lockgraph.specs.Outcomes.{entriesIn, namingsIn, snapshotRead}
 
 -- ---- Demand 2
 
@@ -37,6 +44,17 @@ pub record TableDemand2 (s : List ℕ) (r : ℕ) (o : TableAnswer) (first′ sec
 -- the answer is open exactly if under some naming a surviving type makes the goal true
 pub record VerdictDemand2 (s : List ℕ) (v : VerdictAnswer) : Type 0 where
   pub open-iff : refusalOf s ≡ 0 → ((r : ℕ) × (t : ℕ) × (v ≡ Judging.Open r t)) ↔ ((r : ℕ) × (t : ℕ) × (r < namingsIn s) × HasGoal (tableauIn s) (positive (goalOf (formulas s))) r t)
+
+-- in a given snapshot a formula holds at a node exactly as its meaning over maximal paths says: the lines are those of the snapshot's text, and byte i of the row has its bits by the
+-- goal and the globals as typed, at node i
+pub record RowMeans (s : List ℕ) (lines : List (List ℕ)) (row′ : List ℕ) : Type 0 where
+  pub goal-bit : (i : ℕ) → i < length lines → (getD row′ i 0 % 2 ≡ 1) ↔ HoldsRaw (ofLines lines) (goalOf (formulas s)) i
+  pub globals-bit : (i : ℕ) → i < length lines → (2 ≤ getD row′ i 0) ↔ ((g : Raw) → g ∈ globalsOf (formulas s) → HoldsRaw (ofLines lines) g i)
+
+-- 13 to 15 in document 01's words (`Answered`); and after an answer that is no refusal, what the row says
+pub record SnapshotMeans (s t : List ℕ) (o : SnapshotAnswer) (row′ : List ℕ) : Type 0 where
+  pub reads : refusalOf s ≡ 0 → Answered (lineOf s 0) (kinds s) t (entriesIn s t) (snapshotRead s t)
+  pub judges : (n : ℕ) → o ≡ Judged.Done n → (lines : List (List ℕ)) × Text (lineOf s 0) (length (kinds s)) t lines × (length lines ≡ n) × NamesSingle (isName s) (ofLines lines) × RowMeans s lines row′
 
 -- ---- Demand 3
 

@@ -1,27 +1,35 @@
 -- What each operation answers and leaves, from its arguments: the sheet's bytes, the number of a naming, and the stores as they were. Assumes nothing.
 use mathlib.Core.Path.{_≡_}
 use mathlib.Core.Bool.{cond}
-use mathlib.Core.List.{List, [], _++_}
+use mathlib.Core.List.{List, [], _++_, map}
 use Prim.Native.Nat.{ℕ, zero, suc, _*_, _/_, _%_, _^_, max}
 use lib.Dec.{eqb, ltb}
-use lib.ListN.{length, take, drop}
+use lib.ListN.{length, take, drop, replicate}
 use Rattle.ctl.specs.Lists.{elem}
 use Rattle.ctl.specs.Positive.{positive}
 use Rattle.ctl.specs.Tableau.{namings, startTypes}
 use Rattle.ctl.specs.Verdict as Ctl
 use Rattle.ctl.specs.Verdict.{roundsOf, survivingTypes}
 use Rattle.wordset.specs.Words.{packed}
-use Rattle.sheet.specs.Reading.{formulas, goalOf}
+use Rattle.layout.specs.Layout.{kinds, lineOf}
+use Rattle.sheet.specs.Reading.{formulas, globalsOf, goalOf}
 use Rattle.reader.specs.Reader.{refusalOf}
 use Rattle.prepare.specs.Prepared.{tableauIn}
 use Rattle.booking.specs.Booked.{tablesBy}
+use Rattle.evaluator.specs.Rows.{rowOf}
 use Rattle.listing.specs.Listed.{EachOnce}
+use Rattle.snapshot.specs.Read.{lineStore, readSnapshot}
+use Rattle.snapshot.specs.Store.{ofStore}
+use Rattle.snapshot.specs.declared.Answer.{Answer}
+use Rattle.snapshot.specs.declared.Answer.the-variants as Reading
 use Rattle.lockgraph.specs.declared.tables.TableAnswer.{TableAnswer}
 use Rattle.lockgraph.specs.declared.tables.TableAnswer.the-variants as Table
 use Rattle.lockgraph.specs.declared.books.BookAnswer.{BookAnswer}
 use Rattle.lockgraph.specs.declared.books.BookAnswer.the-variants as Book
 use Rattle.lockgraph.specs.declared.lists.ListAnswer.{ListAnswer}
 use Rattle.lockgraph.specs.declared.lists.ListAnswer.the-variants as Listing
+use Rattle.lockgraph.specs.declared.snapshots.SnapshotAnswer.{SnapshotAnswer}
+use Rattle.lockgraph.specs.declared.snapshots.SnapshotAnswer.the-variants as Judged
 use Rattle.lockgraph.specs.declared.verdicts.VerdictAnswer.{VerdictAnswer}
 use Rattle.lockgraph.specs.declared.verdicts.VerdictAnswer.the-variants as Judging
 
@@ -140,3 +148,42 @@ verdictAnswer s (suc k) = Judging.Refused (suc k)
 unfoldable pub verdictOf : List ℕ → VerdictAnswer
 unfolding verdictIn
 verdictOf s = verdictAnswer s (refusalOf s)
+
+-- ---- Snapshot
+
+-- a snapshot's text, read under line 1 and the kinds of a sheet: its refusal 13 to 15 or its node count, and the store of its entries
+abbrev pub snapshotRead : List ℕ → List ℕ → Answer
+snapshotRead s t = readSnapshot (lineOf s 0) (kinds s) t (replicate 128 0)
+
+abbrev pub entriesIn : List ℕ → List ℕ → List ℕ
+entriesIn s t = lineStore (lineOf s 0) (length (kinds s)) t (replicate 128 0)
+
+abbrev pub nodesOf : Answer → ℕ
+nodesOf (Reading.Refused k) = 0
+nodesOf (Reading.Nodes n) = n
+
+-- 13 to 15; then 16, row: shorter than the node count
+abbrev pub rowRefusal : Answer → ℕ → ℕ
+rowRefusal (Reading.Refused k) long = k
+rowRefusal (Reading.Nodes n) long = cond (ltb long n) 16 0
+
+unfoldable pub snapshotRefusal : List ℕ → List ℕ → ℕ → ℕ
+unfolding readSnapshot
+snapshotRefusal s t long = orElse (refusalOf s) (rowRefusal (snapshotRead s t) long)
+
+abbrev pub snapshotAnswer : List ℕ → List ℕ → ℕ → SnapshotAnswer
+snapshotAnswer s t zero = Judged.Done (nodesOf (snapshotRead s t))
+snapshotAnswer s t (suc k) = Judged.Refused (suc k)
+
+-- a byte for each of n nodes: 1 if the goal holds there, plus 2 if all globals do
+abbrev pub rowIn : List ℕ → List ℕ → ℕ → List ℕ
+rowIn s t n = rowOf (ofStore n (entriesIn s t)) (positive (goalOf (formulas s))) (map positive (globalsOf (formulas s)))
+
+-- the row afterwards, where the refusal is k
+abbrev pub snapshotRow : List ℕ → List ℕ → ℕ → List ℕ → List ℕ
+snapshotRow s t zero row = rowIn s t (nodesOf (snapshotRead s t)) ++ drop (nodesOf (snapshotRead s t)) row
+snapshotRow s t (suc k) row = row
+
+pub record SnapshotIs (s t row : List ℕ) (o : SnapshotAnswer) (row′ : List ℕ) : Type 0 where
+  pub answer : o ≡ snapshotAnswer s t (snapshotRefusal s t (length row))
+  pub row-holds : row′ ≡ snapshotRow s t (snapshotRefusal s t (length row)) row

@@ -7,6 +7,7 @@ ghost use Rattle.reader.specs.Reader.{refusalOf};
 mod books;
 mod lists;
 mod refusals;
+mod snapshots;
 mod tables;
 mod verdicts;
 
@@ -14,6 +15,8 @@ pub use books::BookAnswer;
 pub use books::book;
 pub use lists::ListAnswer;
 pub use lists::list;
+pub use snapshots::SnapshotAnswer;
+pub use snapshots::snapshot;
 pub use tables::TableAnswer;
 pub use tables::part;
 pub use tables::table;

@@ -3,14 +3,15 @@ use mathlib.Core.Path.{_≡_, refl, sym, ap, _∙_}
 use mathlib.Core.Bool.{Bool, true, false, cond, not, _||_, or-false, or-assoc}
 use mathlib.Core.Logic.{_⊎_, inl, inr}
 use mathlib.Core.List.{List, [], _∷_, _++_, List·Memᴰ·head, List·Memᴰ·tail, List·Memᴰ·cases-cons, List·Memᴰ·not-nil}
-use Prim.Native.Nat.{ℕ, suc, _+_, _<_, min}
+use Prim.Native.Nat.{ℕ, zero, suc, _+_, _≤_, _<_, min}
 use native.Mathlib.Omega.{arith}
 use lib.Dec.{eqb, ltb}
 use lib.ListN.{length}
-use borrow.Author.Tests.{ne-eqb, not-false}
+use borrow.Author.Tests.{eqb-true, ne-eqb, not-false}
 use Rattle.ctl.specs.Lists.{_∈_, any}
+use Rattle.ctl.proofs.BoolLaws.{true-and-false}
 use Rattle.syntax.specs.Parse.{Out, good, bad}
-use Rattle.layout.specs.Layout.{lengthWrong, byteWrong, layoutRight, texts, layoutRefusal}
+use Rattle.layout.specs.Layout.{lengthWrong, byteWrong, kinds, layoutRight, letters, texts, layoutRefusal}
 use Rattle.sheet.specs.Refusal.{decls, read, unread, finds, namesWrong, kindsWrong, grammarWrong, symbolsWrong, bracesWrong, firstOf, conditions, readRefusal}
 use Rattle.sheet.specs.Sheet.{foundRefusal, lineRefusal, lowest, sheetRefusal}
 
@@ -113,6 +114,19 @@ module _ (s : List ℕ) (e : readRefusal s ≡ 0) where
   pub right-layout : layoutRight s ≡ true
   unfolding conditions
   right-layout = not-false (layoutRight s) (none (not (layoutRight s)) (List·Memᴰ·tail (List·Memᴰ·tail (List·Memᴰ·head refl))))
+
+  -- there are symbols, and a kind for each
+  pub right-kinds : length (kinds s) ≡ length (letters s)
+  unfolding conditions
+  right-kinds = eqb-true _ _ (not-false (eqb (length (kinds s)) (length (letters s))) (none (kindsWrong s) (List·Memᴰ·tail (List·Memᴰ·tail (List·Memᴰ·tail (List·Memᴰ·tail (List·Memᴰ·head refl)))))))
+
+  pub some-symbols : 1 ≤ length (letters s)
+  unfolding conditions
+  some-symbols = go (length (letters s)) (none (namesWrong s) (List·Memᴰ·tail (List·Memᴰ·tail (List·Memᴰ·tail (List·Memᴰ·head refl)))))
+    where
+      go : (n : ℕ) → eqb n 0 ≡ false → 1 ≤ n
+      go zero e = absurd (true-and-false (eqb 0 0) refl e)
+      go (suc n) e = omega arith
 
   pub right-grammar : grammarWrong s ≡ false
   unfolding conditions

@@ -1,0 +1,46 @@
+// Snapshot: at which nodes of a given snapshot the goal and the globals hold. Assumes nothing.
+ghost use Rattle.lockgraph.specs.Outcomes.{SnapshotIs};
+ghost use Rattle.lockgraph.specs.Demands.{SnapshotMeans};
+use snapshot::Answer;
+
+// A refusal by its number, or how many nodes the snapshot has.
+pub enum SnapshotAnswer {
+    Refused(u8),
+    Done { nodes: usize },
+}
+
+// A byte of the row for each node: 1 if the goal holds there, plus 2 if all globals do.
+pub fn snapshot(sheet: &[u8], text: &[u8], row: &mut [u8]) -> SnapshotAnswer
+    ensures { λ o. ⌜ SnapshotIs (now (sheet .entry)) (now (text .entry)) (now (row .entry)) o (now (row .exit)) ⌝ }
+    ensures { λ o. ⌜ SnapshotMeans (now (sheet .entry)) (now (text .entry)) o (now (row .exit)) ⌝ }
+{
+    let reading = reader::read(sheet);
+    let refusal = reading.refusal;
+    let k = reader::number(refusal);
+    if k != 0 {
+        return SnapshotAnswer::Refused(k);
+    }
+    let kinds = reading.kinds;
+    let mut entries = [0u8; 128];
+    let e = layout::end_of(10, sheet, 0);
+    match snapshot::read(&sheet[..e], &kinds[..reading.symbols], text, &mut entries) {
+        Answer::Refused(k) => SnapshotAnswer::Refused(k),
+        Answer::Nodes(n) => {
+            if row.len() < n {
+                return SnapshotAnswer::Refused(16);
+            }
+            let members = reading.members;
+            let places = reading.places;
+            let last = reading.formulas - 1;
+            evaluator::fill_row(
+                &entries,
+                n,
+                &members[..reading.count],
+                places[last],
+                &places[..last],
+                row,
+            );
+            SnapshotAnswer::Done { nodes: n }
+        }
+    }
+}
