@@ -1,12 +1,16 @@
-// Lines out of chunks of input. A line that the store has no room for is over every limit of an operation, so what is past its end is dropped; the line of a case is
-// written on as it comes.
+// Lines out of chunks of input. A line that the store has no room for is over every limit of an operation, so what is past its end is dropped, with the part of an
+// escape before it; the line of a case is written on as it comes.
 use crate::run::finish;
 use crate::run::is_case;
 use crate::run::write_line;
+use crate::text::put;
+use crate::text::whole;
 
 pub struct State {
     // The bytes of the line so far.
     pub len: usize,
+    // The line goes on past them.
+    pub cut: bool,
     // The line's beginning is written already.
     pub echo: bool,
     // The bytes of the sheet in hand.
@@ -17,6 +21,7 @@ pub struct State {
 pub fn begin() -> State {
     State {
         len: 0,
+        cut: false,
         echo: false,
         sheet: 0,
         stop: false,
@@ -26,6 +31,7 @@ pub fn begin() -> State {
 pub fn stopped(state: State) -> State {
     State {
         len: state.len,
+        cut: state.cut,
         echo: state.echo,
         sheet: state.sheet,
         stop: true,
@@ -40,6 +46,7 @@ fn push(line: &mut [u8], state: State, b: u8) -> State {
         line[n] = b;
         return State {
             len: n + 1,
+            cut: state.cut,
             echo: state.echo,
             sheet,
             stop: state.stop,
@@ -50,10 +57,18 @@ fn push(line: &mut [u8], state: State, b: u8) -> State {
     } else if is_case(line) {
         io::write_all(1, line);
     } else {
-        return state;
+        return State {
+            len: n,
+            cut: true,
+            echo: false,
+            sheet,
+            stop: state.stop,
+        };
     }
+    let len = put(line, 0, b);
     State {
-        len: 0,
+        len,
+        cut: false,
         echo: true,
         sheet,
         stop: false,
@@ -66,6 +81,7 @@ fn finished(line: &[u8], sheet: &mut [u8], state: State) -> State {
         write_line(line);
         return State {
             len: 0,
+            cut: false,
             echo: false,
             sheet: state.sheet,
             stop: false,
@@ -74,6 +90,7 @@ fn finished(line: &[u8], sheet: &mut [u8], state: State) -> State {
     let done = finish(line, sheet, state.sheet);
     State {
         len: 0,
+        cut: false,
         echo: false,
         sheet: done.sheet,
         stop: done.stop,
@@ -82,10 +99,14 @@ fn finished(line: &[u8], sheet: &mut [u8], state: State) -> State {
 
 fn ended(line: &[u8], sheet: &mut [u8], state: State) -> State {
     let n = state.len;
-    if n <= line.len() {
-        return finished(&line[0..n], sheet, state);
+    if line.len() < n {
+        return state;
     }
-    state
+    if state.cut {
+        let end = whole(&line[0..n]);
+        return finished(&line[0..end], sheet, state);
+    }
+    finished(&line[0..n], sheet, state)
 }
 
 fn step(line: &mut [u8], sheet: &mut [u8], state: State, b: u8) -> State {

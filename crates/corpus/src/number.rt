@@ -25,7 +25,7 @@ fn no_digits() -> Digits {
 }
 
 // A byte as a number of 64 bits.
-fn wide(b: u8) -> u64 {
+pub fn wide(b: u8) -> u64 {
     b as u64
 }
 

@@ -2,6 +2,7 @@
 use crate::book::book;
 use crate::list::list;
 use crate::number::number_at;
+use crate::snapshot::snapshot;
 use crate::table::table;
 use crate::text::unescape;
 use crate::verdict::goal;
@@ -39,14 +40,6 @@ fn take_sheet(text: &[u8], store: &mut [u8], old: usize) -> Done {
     }
 }
 
-// The lines that this program passes over.
-fn is_skipped(line: &[u8]) -> bool {
-    if layout::begins_with(line, b"snapshot ") {
-        return true;
-    }
-    layout::same_text(line, b"facts")
-}
-
 fn table_line(line: &[u8], sheet: &[u8]) -> bool {
     let naming = number_at(line, 6);
     let first = number_at(line, naming.next);
@@ -77,6 +70,24 @@ fn list_line(line: &[u8], sheet: &[u8]) -> bool {
     false
 }
 
+// The operation is written up to its number's end; what stands behind the space there is the text.
+fn snapshot_line(line: &[u8], sheet: &[u8]) -> bool {
+    let n = line.len();
+    let length = number_at(line, 9);
+    let next = length.next;
+    if !length.right {
+        return false;
+    }
+    if n < 9 {
+        return false;
+    }
+    if n < next {
+        return false;
+    }
+    let end = layout::end_of(32, line, 9);
+    snapshot(&line[0..end], sheet, &line[next..n], length.value)
+}
+
 // The outcome of an operation on the sheet, unless the line is not understood.
 fn answer(line: &[u8], sheet: &[u8]) -> bool {
     if layout::begins_with(line, b"table ") {
@@ -87,6 +98,9 @@ fn answer(line: &[u8], sheet: &[u8]) -> bool {
     }
     if layout::begins_with(line, b"list ") {
         return list_line(line, sheet);
+    }
+    if layout::begins_with(line, b"snapshot ") {
+        return snapshot_line(line, sheet);
     }
     if layout::same_text(line, b"verdict") {
         verdict(sheet);
@@ -100,7 +114,8 @@ fn answer(line: &[u8], sheet: &[u8]) -> bool {
         program(sheet);
         return true;
     }
-    is_skipped(line)
+    // This program passes over the facts.
+    layout::same_text(line, b"facts")
 }
 
 fn operate(line: &[u8], sheet: &[u8]) -> bool {

@@ -8,6 +8,9 @@ const LOWEST: u16 = 0x5A00;
 
 const HIGHEST: u16 = 0x7A00;
 
+// The pattern of a row of bytes: an odd number's multiples too, of which none of the first 64 says anything of a node.
+const BYTE_STEP: u8 = 0xFD;
+
 pub fn fill_words(store: &mut [u64]) {
     let mut word = STEP;
     let mut i = 0;
@@ -76,6 +79,30 @@ pub fn numbers_kept(store: &[u16], from: usize) -> bool {
             return false;
         }
         number = next_number(number);
+        i += 1;
+    }
+    true
+}
+
+pub fn fill_bytes(store: &mut [u8]) {
+    let mut byte = BYTE_STEP;
+    let mut i = 0;
+    while i < store.len() {
+        store[i] = byte;
+        byte = std::num::wrapping_add_u8(byte, BYTE_STEP);
+        i += 1;
+    }
+}
+
+// The bytes from a place on are the pattern's.
+pub fn bytes_kept(store: &[u8], from: usize) -> bool {
+    let mut byte = BYTE_STEP;
+    let mut i = 0;
+    while i < store.len() {
+        if store[i] != byte && from <= i {
+            return false;
+        }
+        byte = std::num::wrapping_add_u8(byte, BYTE_STEP);
         i += 1;
     }
     true

@@ -1,4 +1,6 @@
 // Escaped text: `\n` is a newline, `\\` a backslash, `\xHH` any byte; all other bytes stand for themselves.
+ghost use Prim.Native.Nat.{_≤_};
+ghost use lib.ListN.{length};
 
 // The bytes that a text stands for, as far as the store has room, and whether the text is one.
 pub struct Read {
@@ -83,7 +85,7 @@ fn next_byte(text: &[u8], i: usize) -> Escape {
 }
 
 // Stores a byte behind the first n, where there is room, and answers how many there are then.
-fn put(store: &mut [u8], n: usize, b: u8) -> usize {
+pub fn put(store: &mut [u8], n: usize, b: u8) -> usize {
     if n < store.len() {
         store[n] = b;
         return n + 1;
@@ -110,6 +112,26 @@ pub fn unescape(text: &[u8], store: &mut [u8]) -> Read {
         count: n,
         right: true,
     }
+}
+
+// Where a text that was cut ends, without an escape that it may have only a part of.
+pub fn whole(text: &[u8]) -> usize
+    ensures { λ r. ⌜ r ≤ length (now (text .entry)) ⌝ }
+{
+    let n = text.len();
+    let mut i = 0;
+    while i < text.len() {
+        let u = next_byte(text, i);
+        let next = u.next;
+        if next <= i {
+            if n - i < 4 {
+                return i;
+            }
+            return n;
+        }
+        i = next;
+    }
+    n
 }
 
 fn write_byte(b: u8) {

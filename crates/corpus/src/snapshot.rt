@@ -1,0 +1,64 @@
+// The outcome of Snapshot: a byte of the row for each node.
+use crate::number::at_most;
+use crate::number::wide;
+use crate::outcome::write_end;
+use crate::outcome::write_operation;
+use crate::outcome::write_refused;
+use crate::store::bytes_kept;
+use crate::store::fill_bytes;
+use crate::text::unescape;
+use lockgraph::SnapshotAnswer;
+
+fn write_bytes(row: &[u8]) {
+    let mut i = 0;
+    while i < row.len() {
+        io::write_all(1, b" ");
+        io::print_decimal(1, wide(row[i]));
+        i += 1;
+    }
+}
+
+// The row's first n bytes; a row that has not so many is disturbed.
+fn write_done(row: &[u8], n: usize) {
+    if n <= row.len() {
+        write_bytes(&row[0..n]);
+        write_end(bytes_kept(row, n));
+        return;
+    }
+    write_end(false);
+}
+
+// Snapshot with the row given.
+fn snapshot_with(sheet: &[u8], text: &[u8], row: &mut [u8]) {
+    fill_bytes(row);
+    let answer = lockgraph::snapshot(sheet, text, row);
+    match answer {
+        SnapshotAnswer::Refused(k) => {
+            write_refused(k);
+            write_end(bytes_kept(row, 0));
+        }
+        SnapshotAnswer::Done { nodes } => write_done(row, nodes),
+    }
+}
+
+fn snapshot_of(sheet: &[u8], text: &[u8], length: u64) {
+    let mut row = [0u8; 64];
+    let n = at_most(length, 64);
+    snapshot_with(sheet, text, &mut row[0..n]);
+}
+
+// The outcome for a text that is escaped, unless it is none. A longer one than the store is as wrong as one that just fills it.
+pub fn snapshot(operation: &[u8], sheet: &[u8], escaped: &[u8], length: u64) -> bool {
+    let mut text = [0u8; 1025];
+    let r = unescape(escaped, &mut text);
+    let n = r.count;
+    if !r.right {
+        return false;
+    }
+    if 1025 < n {
+        return false;
+    }
+    write_operation(operation);
+    snapshot_of(sheet, &text[0..n], length);
+    true
+}
