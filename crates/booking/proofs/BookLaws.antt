@@ -1,6 +1,6 @@
 -- Tables one after the other: how many words they take, when they are the same, and a loop that writes one table a turn.
 -- Assumes nothing.
-use mathlib.Core.Path.{_≡_, refl, sym, ap, ap₂, _∙_}
+use mathlib.Core.Path.{_≡_, refl, sym, ap, ap₂, _∙_, subst}
 use mathlib.Core.Bool.{Bool}
 use mathlib.Core.List.{List, _++_, append-assoc}
 use Prim.Native.Nat.{ℕ, zero, suc, _+_, _-_, _*_, _≤_, _<_}
@@ -70,6 +70,9 @@ module _ {P : ℕ → ℕ → Bool} {w n : ℕ} {d : List ℕ} where
     where
       drop-none : (k : ℕ) (l : List ℕ) → k ≡ 0 → drop k l ≡ l
       drop-none k l e = rw e refl
+
+  pub written-moved : {l : List ℕ} {r q : ℕ} → Written P w n d l r → q ≡ r → Written P w n d l q
+  written-moved {l} b e = subst (λ k. Written P w n d l k) (sym e) b
 
   -- there is room for table r
   pub written-room : {l : List ℕ} {r : ℕ} → Written P w n d l r → r < n → r * w + w ≤ length l

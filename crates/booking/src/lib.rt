@@ -49,10 +49,11 @@ pub fn fill_book(
     requires { ⌜ Places (now names) (now others) × ((w ≤ 4) × ((w ≤ length (now base)) × (namings * w ≤ length (now store)))) ⌝ }
     ensures { λ _. ⌜ now (store .exit) ≡ tablesBy w (λ r t. elem t (Survivors (now (ms .entry)) (now (ln .entry)) (startList w (now (base .entry)) (now (names .entry)) (now (others .entry)) r))) namings ++ drop (namings * w) (now (store .entry)) ⌝ }
 {
-    let mut r: u64 = 0;
-    while r < namings {
+    let mut n = naming::first(namings);
+    while n.number < n.count {
+        let r = n.number;
         let at = r as usize * w;
         fill_one(ms, ln, w, tw, lw, names, others, base, r, &mut store[at..]);
-        r += 1;
+        n = naming::advanced(n);
     }
 }

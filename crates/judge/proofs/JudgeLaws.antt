@@ -67,6 +67,9 @@ module _ {goals : ℕ → List ℕ} {n : ℕ} where
   pub judge-start : Judging goals n 0
   judge-start = record { within = omega arith; none = λ q h. absurd (omega arith) }
 
+  pub judge-moved : {r q : ℕ} → Judging goals n r → q ≡ r → Judging goals n q
+  judge-moved j e = subst (λ k. Judging goals n k) (sym e) j
+
   pub judge-next : {r : ℕ} → Judging goals n r → r < n → firstOf (goals r) ≡ Nothing → Judging goals n (r + 1)
   judge-next {r} j h e = record { within = omega arith; none = λ q l. go q (top q r (omega arith)) }
     where

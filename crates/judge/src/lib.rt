@@ -121,8 +121,9 @@ pub fn judge(
     requires { ⌜ Places (now names) (now others) × ((w ≤ length (now base)) × (goal < length (now ms))) ⌝ }
     ensures { λ r. ⌜ Judged (goalsAt (now (ms .entry)) (now (ln .entry)) w (now (base .entry)) (now (names .entry)) (now (others .entry)) goal) namings r ⌝ }
 {
-    let mut r = 0;
-    while r < namings {
+    let mut n = naming::first(namings);
+    while n.number < n.count {
+        let r = n.number;
         let found = try_naming(
             ms,
             ln,
@@ -146,7 +147,7 @@ pub fn judge(
                 least: t,
             };
         }
-        r += 1;
+        n = naming::advanced(n);
     }
     Verdict::Unsatisfiable
 }

@@ -83,6 +83,9 @@ module _ {goals : ℕ → List ℕ} {n : ℕ} {out₀ : List ℕ} where
       second-long = b ∙ p .second-long;
     }
 
+    pub printing-moved : {q : ℕ} → q ≡ r → Printing goals n out₀ out first second v k q
+    printing-moved e = subst (λ i. Printing goals n out₀ out first second v k i) (sym e) p
+
     pub printing-end : n ≤ r → Judged goals n v
     printing-end h = let w = p .within in judged-end (p .judged) (omega arith)
 

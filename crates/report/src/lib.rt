@@ -88,9 +88,10 @@ fn rows(
     let mut first = [0u64; 4];
     let mut second = [0u64; 4];
     let mut v = Verdict::Unsatisfiable;
-    let mut n = used;
-    let mut r = 0;
-    while r < namings {
+    let mut k = used;
+    let mut n = naming::first(namings);
+    while n.number < n.count {
+        let r = n.number;
         let c = judge::fill_table(
             ms,
             ln,
@@ -104,13 +105,13 @@ fn rows(
             &mut first,
             &mut second,
         );
-        n = put_row(out, n, r, c, newline);
+        k = put_row(out, k, r, c, newline);
         let found = tableau::goal::goal_type(ms, ln, w, tw, goal, &first);
         v = later(v, r, found);
-        r += 1;
+        n = naming::advanced(n);
     }
-    n = put_verdict(out, n, v, newline);
-    flush(out, n);
+    k = put_verdict(out, k, v, newline);
+    flush(out, k);
     v
 }
 

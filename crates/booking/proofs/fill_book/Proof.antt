@@ -1,67 +1,101 @@
 -- `fill_book` meets its contract. Assumes nothing.
+use mathlib.Core.Path.{_≡_}
 use Prim.Native.Nat.{_-_, _*_}
 use native.Mathlib.Omega.{arith}
 use borrow.Author.Needs.{needs}
 use Rattle.ctl.specs.Lists.{elem}
 use Rattle.tableau.specs.Families.{Survivors}
 use Rattle.tableau.specs.Starts.{startList}
+use Rattle.naming.proofs.NextLaws.{start-number, start-count, in-hand, none-left, next-number, next-count, next-less}
 use Rattle.booking.proofs.Tails.{tail-length}
-use Rattle.booking.proofs.BookLaws.{Written, written-start, written-room, written-next, written-end}
+use Rattle.booking.proofs.BookLaws.{Written, written-start, written-moved, written-room, written-next, written-end}
 use Rattle.booking.proofs.fill_book.Statement.{statement}
 use Rattle.booking.proofs.fill_book.Tie as tie
 
 abbrev Inv-loop : tie.InvT-loop
-Inv-loop ms ln w tw lw names others base namings store₀ r₀ store r =
-    Written (λ q t. elem t (Survivors ms ln (startList w base names others q))) w namings store₀ store r
+Inv-loop ms ln w tw lw names others base namings store₀ n₀ store n =
+    Written (λ q t. elem t (Survivors ms ln (startList w base names others q))) w namings store₀ store (n .number) × (n .count ≡ namings)
 
 abbrev μ-loop : tie.MeasureT-loop
-μ-loop ms ln w tw lw names others base namings store₀ r₀ store r = namings - r
+μ-loop ms ln w tw lw names others base namings store₀ n₀ store n = n .count - n .number
+
+first-requires : tie.Need-first-requires Inv-loop μ-loop
+first-requires c κs = search needs
 
 loop-holds : tie.Need-loop-holds Inv-loop μ-loop
-loop-holds c = written-start (c .before .before .before .before .before .before .before .before .pre .1 .1 .1 .1)
+loop-holds c =
+    let b9 = c .before .before .before .before .before .before .before .before .before in
+    (written-moved (written-start (b9 .pre .1 .1 .1 .1)) (start-number (c .first .result) (c .first .ensures)), start-count (c .first .result) (c .first .ensures))
 
 mul-at : tie.Need-mul-at Inv-loop μ-loop
-mul-at c = omega (arith, written-room (c .before .loop .inv) (c .loop-test .taken))
+mul-at c =
+    let b2 = c .before .before in
+    let b12 = b2 .before .before .before .before .before .before .before .before .before .before in
+    let at = b2 .loop in
+    omega (arith, b12 .good .1 .1 .1 .1 .1 .1 .1 .1 .1 .0, written-room (at .inv .0) (in-hand (at .n) (at .inv .1) (c .if1 .taken)))
 
 mul-fill-one : tie.Need-mul-fill-one Inv-loop μ-loop
-mul-fill-one c = omega (arith, written-room (c .before .loop .inv) (c .loop-test .taken))
+mul-fill-one c =
+    let b2 = c .before .before in
+    let b12 = b2 .before .before .before .before .before .before .before .before .before .before in
+    let at = b2 .loop in
+    omega (arith, b12 .good .1 .1 .1 .1 .1 .1 .1 .1 .1 .0, written-room (at .inv .0) (in-hand (at .n) (at .inv .1) (c .if1 .taken)))
 
 sub-fill-one : tie.Need-sub-fill-one Inv-loop μ-loop
-sub-fill-one c = omega (arith, written-room (c .before .loop .inv) (c .loop-test .taken))
+sub-fill-one c =
+    let b2 = c .before .before in
+    let at = b2 .loop in
+    omega (arith, written-room (at .inv .0) (in-hand (at .n) (at .inv .1) (c .if1 .taken)))
 
 part-fill-one-start : tie.Need-part-fill-one-start Inv-loop μ-loop
-part-fill-one-start c = omega (arith, written-room (c .before .loop .inv) (c .loop-test .taken))
+part-fill-one-start c =
+    let b2 = c .before .before in
+    let at = b2 .loop in
+    omega (arith, written-room (at .inv .0) (in-hand (at .n) (at .inv .1) (c .if1 .taken)))
 
 part-fill-one-end : tie.Need-part-fill-one-end Inv-loop μ-loop
-part-fill-one-end c = omega (arith, written-room (c .before .loop .inv) (c .loop-test .taken))
+part-fill-one-end c =
+    let b2 = c .before .before in
+    let at = b2 .loop in
+    omega (arith, written-room (at .inv .0) (in-hand (at .n) (at .inv .1) (c .if1 .taken)))
 
 fill-one-requires : tie.Need-fill-one-requires Inv-loop μ-loop
 fill-one-requires c κs =
-    let b2 = c .before .before in
-    let b11 = b2 .before .before .before .before .before .before .before .before .before in
-    let at = b2 .loop in
-    let p = b11 .pre .1 in
-    let room = written-room (at .inv) (c .before .loop-test .taken) in
-    let long = tail-length (at .store) (at .r * b11 .args .w) in
-    (b11 .pre .0, (p .0, (p .1 .0, (p .1 .1 .0, omega (arith, room, long)))))
+    let b1 = c .before in
+    let b3 = b1 .before .before in
+    let b13 = b3 .before .before .before .before .before .before .before .before .before .before in
+    let at = b3 .loop in
+    let p = b13 .pre .1 in
+    let room = written-room (at .inv .0) (in-hand (at .n) (at .inv .1) (b1 .if1 .taken)) in
+    let long = tail-length (at .store) (at .n .number * b13 .args .w) in
+    (b13 .pre .0, (p .0, (p .1 .0, (p .1 .1 .0, omega (arith, room, long)))))
 
-add-r : tie.Need-add-r Inv-loop μ-loop
-add-r c = search needs
+advanced-requires : tie.Need-advanced-requires Inv-loop μ-loop
+advanced-requires c κs = search needs
 
 loop-less : tie.Need-loop-less Inv-loop μ-loop
-loop-less c = search needs
+loop-less c =
+    let b5 = c .before .before .before .before .before in
+    let b7 = b5 .before .before in
+    next-less (b7 .loop .n) (c .advanced .result) (c .advanced .ensures) (b5 .if1 .taken)
 
 loop-again : tie.Need-loop-again Inv-loop μ-loop
 loop-again c =
-    let b2 = c .before .before in
-    let b4 = b2 .before .before in
-    written-next (b2 .fill-one .last .1 .1 .1 .1 .1 .1 .1 .1 .1 .0) (b4 .before .loop .inv) (b4 .loop-test .taken) (b2 .fill-one .ensures)
+    let b3 = c .before .before .before in
+    let b5 = b3 .before .before in
+    let b7 = b5 .before .before in
+    let at = b7 .loop in
+    let next = c .advanced in
+    let written = written-next (b3 .fill-one .last .1 .1 .1 .1 .1 .1 .1 .1 .1 .0) (at .inv .0) (in-hand (at .n) (at .inv .1) (b5 .if1 .taken)) (b3 .fill-one .ensures) in
+    (written-moved written (next-number (at .n) (next .result) (next .ensures) (b5 .if1 .taken)), next-count (at .n) (next .result) (next .ensures) (at .inv .1))
 
 same-length : tie.Need-same-length Inv-loop μ-loop
 same-length c = search needs
 
 returns : tie.Need-returns Inv-loop μ-loop
-returns c = written-end (c .before .loop .inv) (c .loop-test .left)
+returns c =
+    let b2 = c .before .before in
+    written-end (b2 .loop .inv .0) (none-left (b2 .loop .n) (b2 .loop .inv .1) (c .if1 .left))
 
 pub fill-book-spec : {M : Type 1} → statement M
 fill-book-spec =
@@ -69,6 +103,7 @@ fill-book-spec =
     (tie.spec
     Inv-loop
     μ-loop
+    first-requires
     loop-holds
     mul-at
     mul-fill-one
@@ -76,7 +111,7 @@ fill-book-spec =
     part-fill-one-start
     part-fill-one-end
     fill-one-requires
-    add-r
+    advanced-requires
     loop-less
     loop-again
     same-length

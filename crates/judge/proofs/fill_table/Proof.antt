@@ -2,38 +2,28 @@
 use borrow.Author.Needs.{needs}
 use Rattle.judge.proofs.fill_table.Statement.{statement}
 use Rattle.judge.proofs.fill_table.Tie as tie
-use Rattle.judge.proofs.fill_table.Reads as reads
-use Rattle.judge.proofs.fill_table.Lts as lts
-use Rattle.tableau.proofs.table.table.Reads as table-reads
 
--- src/lib.rt:53:9
 slice-aggregate-table : tie.Need-slice-aggregate-table
 slice-aggregate-table c = search needs
 
--- src/lib.rt:54:9
 slice-aggregate-table-2 : tie.Need-slice-aggregate-table-2
 slice-aggregate-table-2 c = search needs
 
--- src/lib.rt:55:9
 slice-aggregate-table-3 : tie.Need-slice-aggregate-table-3
 slice-aggregate-table-3 c = search needs
 
--- src/lib.rt:41:5
 table-requires : tie.Need-table-requires
 table-requires c κs =
     let b14 = c .before .before .before .before .before .before .before .before .before .before .before .before .before .before in
     let p = b14 .pre .1 in
     (b14 .pre .0, ((p .1 .1 .1 .0, p .1 .1 .1 .1, p .1 .0, p .1 .0, p .1 .0), ((p .0 .others-few, p .0 .names-few, p .1 .1 .0), (p .0 .others-in, p .0 .names-in))))
 
--- src/lib.rt:21:1
 same-length : tie.Need-same-length
 same-length c = search needs
 
--- src/lib.rt:21:1
 same-length-2 : tie.Need-same-length-2
 same-length-2 c = search needs
 
--- src/lib.rt:21:1
 returns : tie.Need-returns
 returns c = search needs
 

@@ -1,31 +1,32 @@
 -- `judge` meets its contract. Assumes nothing.
-use native.Mathlib.Nat.{lt-of-le-of-lt}
-use native.Mathlib.Omega.{arith}
 use borrow.Author.Needs.{needs}
-use mathlib.Core.Path.{sym, _∙_}
+use mathlib.Core.Path.{_≡_, sym, _∙_}
 use Prim.Native.Nat.{_-_}
+use Rattle.naming.proofs.NextLaws.{start-number, start-count, in-hand, none-left, next-number, next-count, next-less}
 use Rattle.judge.specs.Judged.{goalsAt}
-use Rattle.judge.proofs.JudgeLaws.{Judging, Kept, judge-start, judge-next, judge-open, judge-end, room-kept, kept-start, kept-more}
+use Rattle.judge.proofs.JudgeLaws.{Judging, Kept, judge-start, judge-moved, judge-next, judge-open, judge-end, room-kept, kept-start, kept-more}
 use Rattle.judge.proofs.judge.Statement.{statement}
 use Rattle.judge.proofs.judge.Tie as tie
 
 abbrev Inv-loop : tie.InvT-loop
-Inv-loop ms ln w tw lw names others base goal namings first₀ second₀ u₀ todo₀ v₀ r₀ first second u todo v r =
-    Judging (goalsAt ms ln w base names others goal) namings r × Kept first₀ second₀ u₀ todo₀ v₀ first second u todo v
+Inv-loop ms ln w tw lw names others base goal namings first₀ second₀ u₀ todo₀ v₀ n₀ first second u todo v n =
+    Judging (goalsAt ms ln w base names others goal) namings (n .number) × ((n .count ≡ namings) × Kept first₀ second₀ u₀ todo₀ v₀ first second u todo v)
 
 abbrev μ-loop : tie.MeasureT-loop
-μ-loop ms ln w tw lw names others base goal namings first₀ second₀ u₀ todo₀ v₀ r₀ first second u todo v r =
-    namings - r
+μ-loop ms ln w tw lw names others base goal namings first₀ second₀ u₀ todo₀ v₀ n₀ first second u todo v n =
+    n .count - n .number
+
+first-requires : tie.Need-first-requires Inv-loop μ-loop
+first-requires c κs = search needs
 
 loop-holds : tie.Need-loop-holds Inv-loop μ-loop
-loop-holds c =
-    (judge-start, kept-start)
+loop-holds c = (judge-moved judge-start (start-number (c .first .result) (c .first .ensures)), (start-count (c .first .result) (c .first .ensures), kept-start))
 
 try-naming-requires : tie.Need-try-naming-requires Inv-loop μ-loop
 try-naming-requires c κs =
-    let b6 = c .before .before .before .before .before .before in
-    let b19 = b6 .before .before .before .before .before .before .before .before .before .before .before .before .before in
-    (b19 .pre .0, (room-kept (b19 .pre .1 .0) (b6 .loop .inv .1), b19 .pre .1 .1))
+    let b7 = c .before .before .before .before .before .before .before in
+    let b21 = b7 .before .before .before .before .before .before .before .before .before .before .before .before .before .before in
+    (b21 .pre .0, (room-kept (b21 .pre .1 .0) (b7 .loop .inv .1 .1), b21 .pre .1 .1))
 
 enum-known-found : tie.Need-enum-known-found Inv-loop μ-loop
 enum-known-found c = search needs
@@ -50,27 +51,32 @@ returns c =
     let b1 = c .before in
     let b13 = b1 .before .before .before .before .before .before .before .before .before .before .before .before in
     let b19 = b13 .before .before .before .before .before .before in
-    let b20 = b19 .before in
-    judge-open (b20 .loop .inv .0) (b19 .loop-test .taken) (sym (b13 .try-naming .ensures) ∙ b1 .found .given .1)
+    let b21 = b19 .before .before in
+    judge-open (b21 .loop .inv .0) (in-hand (b21 .loop .n) (b21 .loop .inv .1 .0) (b19 .if1 .taken)) (sym (b13 .try-naming .ensures) ∙ b1 .found .given .1)
 
 enum-told : tie.Need-enum-told Inv-loop μ-loop
 enum-told c = search needs
 
-add-r : tie.Need-add-r Inv-loop μ-loop
-add-r c =
-    let b18 = c .before .before .before .before .before .before .before .before .before .before .before .before .before .before .before .before .before .before in
-    let b32 = b18 .before .before .before .before .before .before .before .before .before .before .before .before .before .before in
-    record { fits = lt-of-le-of-lt (omega (arith, b18 .loop-test .taken)) (b32 .good .1 .1 .1 .1 .1 .1 .1 .1 .1 .0 .1) }
+advanced-requires : tie.Need-advanced-requires Inv-loop μ-loop
+advanced-requires c κs = search needs
 
 loop-less : tie.Need-loop-less Inv-loop μ-loop
-loop-less c = search needs
+loop-less c =
+    let b19 = c .before .before .before .before .before .before .before .before .before .before .before .before .before .before .before .before .before .before .before in
+    let b21 = b19 .before .before in
+    next-less (b21 .loop .n) (c .advanced .result) (c .advanced .ensures) (b19 .if1 .taken)
 
 loop-again : tie.Need-loop-again Inv-loop μ-loop
 loop-again c =
-    let b12 = c .before .before .before .before .before .before .before .before .before .before .before .before in
-    let b18 = b12 .before .before .before .before .before .before in
-    let b19 = b18 .before in
-    (judge-next (b19 .loop .inv .0) (b18 .loop-test .taken) (sym (b12 .try-naming .ensures) ∙ c .enum-told .given .1), kept-more (b19 .loop .inv .1) (record { first-long = b12 .try-naming .kept .1 .1 .1 .1 .1 .1 .1 .1 .1 .1 .0; second-long = b12 .try-naming .kept .1 .1 .1 .1 .1 .1 .1 .1 .1 .1 .1 .0; u-long = b12 .try-naming .kept .1 .1 .1 .1 .1 .1 .1 .1 .1 .1 .1 .1 .0; todo-long = b12 .try-naming .kept .1 .1 .1 .1 .1 .1 .1 .1 .1 .1 .1 .1 .1 .0; v-long = b12 .try-naming .kept .1 .1 .1 .1 .1 .1 .1 .1 .1 .1 .1 .1 .1 .1 .0 }))
+    let b1 = c .before in
+    let b13 = b1 .before .before .before .before .before .before .before .before .before .before .before .before in
+    let b19 = b13 .before .before .before .before .before .before in
+    let b21 = b19 .before .before in
+    let now = b21 .loop in
+    let next = c .advanced in
+    let kept = b13 .try-naming .kept .1 .1 .1 .1 .1 .1 .1 .1 .1 .1 in
+    let none = sym (b13 .try-naming .ensures) ∙ b1 .enum-told .given .1 in
+    (judge-moved (judge-next (now .inv .0) (in-hand (now .n) (now .inv .1 .0) (b19 .if1 .taken)) none) (next-number (now .n) (next .result) (next .ensures) (b19 .if1 .taken)), (next-count (now .n) (next .result) (next .ensures) (now .inv .1 .0), kept-more (now .inv .1 .1) (record { first-long = kept .0; second-long = kept .1 .0; u-long = kept .1 .1 .0; todo-long = kept .1 .1 .1 .0; v-long = kept .1 .1 .1 .1 .0 })))
 
 same-length-6 : tie.Need-same-length-6 Inv-loop μ-loop
 same-length-6 c = search needs
@@ -89,8 +95,8 @@ same-length-10 c = search needs
 
 returns-2 : tie.Need-returns-2 Inv-loop μ-loop
 returns-2 c =
-    let b1 = c .before in
-    judge-end (b1 .loop .inv .0) (c .loop-test .left)
+    let b2 = c .before .before in
+    judge-end (b2 .loop .inv .0) (none-left (b2 .loop .n) (b2 .loop .inv .1 .0) (c .if1 .left))
 
 pub judge-spec : {M : Type 1} → statement M
 judge-spec =
@@ -98,6 +104,7 @@ judge-spec =
     (tie.spec
     Inv-loop
     μ-loop
+    first-requires
     loop-holds
     try-naming-requires
     enum-known-found
@@ -108,7 +115,7 @@ judge-spec =
     same-length-5
     returns
     enum-told
-    add-r
+    advanced-requires
     loop-less
     loop-again
     same-length-6
