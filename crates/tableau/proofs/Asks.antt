@@ -1,6 +1,6 @@
 -- What members ask of a type against a set of types that is given by words. Assumes nothing.
 use mathlib.Core.Path.{_≡_, refl, sym, ap, ap₂, _∙_}
-use mathlib.Core.Bool.{and-true, or-false, and-comm, true≢false, Bool, true, false, _&&_}
+use mathlib.Core.Bool.{and-true, and-assoc, or-false, and-comm, true≢false, Bool, true, false, not, _&&_, _||_}
 use mathlib.Core.List.{List}
 use mathlib.Core.Logic.{_⊎_, inl, inr}
 use Prim.Native.Nat.{ℕ, _+_, _*_, _^_, _<_}
@@ -23,9 +23,9 @@ use Rattle.closure.specs.Members.{formBy, forms}
 use Rattle.tableau.specs.Tables.{argAt, form, leftAt, rightAt, tagAt}
 use Rattle.tableau.specs.Blocks.{has}
 use Rattle.tableau.specs.Truths.{Tr, trueAt}
-use Rattle.tableau.specs.Links.{Lk}
+use Rattle.tableau.specs.Links.{Lk, meets}
 use Rattle.tableau.specs.Families.{Follows, Linked, Next, Ready, listOf, passes}
-use Rattle.tableau.proofs.TestLaws.{to-true}
+use Rattle.tableau.proofs.TestLaws.{to-or}
 use Rattle.tableau.proofs.ListWords.{any-listed, list-in, list-out, some-below, some-in}
 use Rattle.tableau.proofs.MemberLaws.{all-forms, form-tag, tag-of}
 use Rattle.tableau.proofs.TruthLaws.{truth-bit}
@@ -61,42 +61,22 @@ module _ (ms ln : List ℕ) where
   follow-other U a t (er A p q) f = refl
   follow-other U a t (ar A p q) f = refl
 
-  other-passes : (U : List ℕ) (t : ℕ) (p : Form) → (tag p ≡ 6 → ⊥) → (tag p ≡ 8 → ⊥) → (tag p ≡ 9 → ⊥) → true ≡ passes ms ln U t p
-  unfolding passes
-  other-passes U t tru f g h = refl
-  other-passes U t fls f g h = refl
-  other-passes U t (lit k) f g h = refl
-  other-passes U t (nlit k) f g h = refl
-  other-passes U t (and p q) f g h = refl
-  other-passes U t (or p q) f g h = refl
-  other-passes U t (ex A p) f g h = absurd (f refl)
-  other-passes U t (ax A p) f g h = refl
-  other-passes U t (eu A p q) f g h = absurd (g refl)
-  other-passes U t (au A p q) f g h = absurd (h refl)
-  other-passes U t (er A p q) f g h = refl
-  other-passes U t (ar A p q) f g h = refl
-
 module _ {ms ln : List ℕ} {w : ℕ} {tw lw : List ℕ} (r : Ready ms ln w tw lw) where
   -- EX over one mode
-  next-is : (us : List ℕ) (t m p a : ℕ) → t < w * 64 → m < 16 → p < length ms → a ≡ 2 ^ m
-      → any (w * 64) (λ j. has w lw (t * 16 + m) j && has w tw p j && member us j) ≡ Next ms ln (listOf w us) a (form ms p) t
-  unfolding E.next
-  next-is us t m p a h k l e =
-      any-ext (λ j. has w lw (t * 16 + m) j && has w tw p j && member us j) (λ j. member us j && (trueAt ms ln p j && Linked ms ln a t j)) (w * 64)
-      (λ j i. ap₂ (λ x y. x && y && member us j) (r .rows .rows t m j h k i ∙ sym (linked-one ms ln a m k e t j)) (truth-bit (r .truths) p l j i)
-      ∙ and-comm (Linked ms ln a t j && trueAt ms ln p j) (member us j) ∙ ap (λ x. member us j && x) (and-comm (Linked ms ln a t j) (trueAt ms ln p j)))
+  pub meets-next : (us : List ℕ) (t m p a : ℕ) → t < w * 64 → m < 16 → p < length ms → a ≡ 2 ^ m → meets w lw m (λ c. member us c && has w tw p c) t ≡ Next ms ln (listOf w us) a (form ms p) t
+  unfolding meets E.next
+  meets-next us t m p a h k l e =
+      any-ext (λ j. has w lw (t * 16 + m) j && (member us j && has w tw p j)) (λ j. member us j && (trueAt ms ln p j && Linked ms ln a t j)) (w * 64)
+      (λ j i. ap₂ _&&_ (r .rows .rows t m j h k i ∙ sym (linked-one ms ln a m k e t j)) (ap (λ x. member us j && x) (truth-bit (r .truths) p l j i))
+      ∙ and-comm (Linked ms ln a t j) (member us j && trueAt ms ln p j) ∙ and-assoc (member us j) (trueAt ms ln p j) (Linked ms ln a t j))
       ∙ any-listed w us (λ j. trueAt ms ln p j && Linked ms ln a t j)
-
-  pub next-has : (us : List ℕ) (t m p a : ℕ) → t < w * 64 → m < 16 → p < length ms → a ≡ 2 ^ m → (s : Bool) → s ≡ any (w * 64) (λ j. has w lw (t * 16 + m) j && has w tw p j && member us j)
-      → s ≡ Next ms ln (listOf w us) a (form ms p) t
-  next-has us t m p a h k l e s q = q ∙ next-is us t m p a h k l e
 
   -- one of several modes
   abbrev pub StepsBy : List ℕ → ℕ → ℕ → ℕ → Bool
-  StepsBy us a t m = hasMode a m && any (w * 64) (λ j. has w lw (t * 16 + m) j && member us j)
+  StepsBy us a t m = hasMode a m && meets w lw m (member us) t
 
   pub steps-is : (us : List ℕ) (t a : ℕ) → t < w * 64 → any 16 (StepsBy us a t) ≡ L.any (Linked ms ln a t) (listOf w us)
-  unfolding linked
+  unfolding linked meets
   steps-is us t a h =
       both-ways _ _
       (λ s. (let x = some-below 16 (StepsBy us a t) s in
@@ -141,11 +121,10 @@ module _ {ms ln : List ℕ} {w : ℕ} {tw lw : List ℕ} (r : Ready ms ln w tw l
         pub follow-mode : hasMode a m ≡ false → true ≡ Follows ms ln U a t (form ms i)
         follow-mode f = sym (follow-one ∙ ap (λ x. imp x (imp (trueAt ms ln i t) here)) f)
 
-        pub follow-false : trueAt ms ln i t ≡ false → true ≡ Follows ms ln U a t (form ms i)
-        follow-false f = sym (follow-one ∙ ap (λ x. imp (hasMode a m) (imp x here)) f ∙ to-true (hasMode a m))
-
-        pub follow-next : (p : ℕ) (s : Bool) → hasMode a m ≡ true → trueAt ms ln i t ≡ true → p ≡ leftAt ms i → s ≡ Next ms ln U b (form ms p) t → s ≡ Follows ms ln U a t (form ms i)
-        follow-next p s f g ep d = d ∙ ap₂ (λ x y. Next ms ln U x (form ms y) t) eb ep ∙ sym (follow-one ∙ ap₂ (λ x y. imp x (imp y here)) f g)
+        pub follow-next : (p : ℕ) (x y : Bool) → hasMode a m ≡ true → x ≡ trueAt ms ln i t → p ≡ leftAt ms i → y ≡ Next ms ln U b (form ms p) t → (not x || y) ≡ Follows ms ln U a t (form ms i)
+        follow-next p x y f g ep d =
+            ap₂ (λ x y. not x || y) g (d ∙ ap₂ (λ x y. Next ms ln U x (form ms y) t) eb ep)
+            ∙ sym (follow-one ∙ ap (λ x. imp x (imp (trueAt ms ln i t) here)) f ∙ to-or (trueAt ms ln i t) here)
 
   -- every EX of the closure follows if those of the lean do
   pub all-lean : (U : List ℕ) (a t : ℕ) → all (length ln) (λ k. Follows ms ln U a t (form ms (getD ln k 0))) ≡ L.all (Follows ms ln U a t) (forms ms)
@@ -172,18 +151,6 @@ module _ {ms ln : List ℕ} {w : ℕ} {tw lw : List ℕ} (r : Ready ms ln w tw l
     pass-tag : (k : ℕ) → tagAt ms i ≡ k → passes ms ln U t (form ms i) ≡ passes ms ln U t (formBy k (argAt ms i) (form ms (leftAt ms i)) (form ms (rightAt ms i)))
     pass-tag k e = ap (passes ms ln U t) (form-tag (r .table) i h k e)
 
-    pass-ex : tagAt ms i ≡ 6 → passes ms ln U t (form ms i) ≡ imp (single (argAt ms i)) (Next ms ln U (argAt ms i) (form ms (leftAt ms i)) t)
-    unfolding passes
-    pass-ex e = pass-tag 6 e
-
-    pub pass-wide : (b : ℕ) → tagAt ms i ≡ 6 → b ≡ argAt ms i → (single b ≡ true → ⊥) → true ≡ passes ms ln U t (form ms i)
-    pass-wide b e eb f = sym (pass-ex e ∙ ap (λ c. imp c (Next ms ln U (argAt ms i) (form ms (leftAt ms i)) t)) (sym (ap single eb) ∙ false-of (single b) f))
-
-    pub pass-one : (b m p : ℕ) (s : Bool) → tagAt ms i ≡ 6 → m < 16 → b ≡ argAt ms i → b ≡ 2 ^ m → p ≡ leftAt ms i → s ≡ Next ms ln U b (form ms p) t → s ≡ passes ms ln U t (form ms i)
-    pass-one b m p s e l eb q ep d =
-        d ∙ ap₂ (λ x y. Next ms ln U x (form ms y) t) eb ep
-        ∙ sym (pass-ex e ∙ ap (λ c. imp c (Next ms ln U (argAt ms i) (form ms (leftAt ms i)) t)) (ap single (sym eb ∙ q) ∙ true-T (single (2 ^ m)) (single-in {m = m} (below-in l))))
-
     pub pass-eu : (b : ℕ) (s : Bool) → tagAt ms i ≡ 8 → b ≡ argAt ms i → s ≡ L.any (Linked ms ln b t) U → s ≡ passes ms ln U t (form ms i)
     unfolding passes
     pass-eu b s e eb d = d ∙ ap (λ x. L.any (Linked ms ln x t) U) eb ∙ sym (pass-tag 8 e)
@@ -191,6 +158,3 @@ module _ {ms ln : List ℕ} {w : ℕ} {tw lw : List ℕ} (r : Ready ms ln w tw l
     pub pass-au : (b : ℕ) (s : Bool) → tagAt ms i ≡ 9 → b ≡ argAt ms i → s ≡ L.all (Follows ms ln U b t) (forms ms) → s ≡ passes ms ln U t (form ms i)
     unfolding passes
     pass-au b s e eb d = d ∙ ap (λ x. L.all (Follows ms ln U x t) (forms ms)) eb ∙ sym (pass-tag 9 e)
-
-    pub pass-other : (tagAt ms i ≡ 6 → ⊥) → (tagAt ms i ≡ 8 → ⊥) → (tagAt ms i ≡ 9 → ⊥) → true ≡ passes ms ln U t (form ms i)
-    pass-other f g d = let q = sym (tag-of (r .table) i h) in other-passes ms ln U t (form ms i) (λ e. f (q ∙ e)) (λ e. g (q ∙ e)) (λ e. d (q ∙ e))

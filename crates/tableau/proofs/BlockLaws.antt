@@ -120,6 +120,3 @@ slot w j n k len h r l = let b = block-in w j n h in omega arith
 -- a part that goes to the end
 pub tail : (n : ℕ) (l : List ℕ) → take (length l - n) (drop n l) ≡ drop n l
 tail n l = take-all (length l - n) (drop n l) (omega (arith, length-drop n l))
-
-pub tail-room : (w n : ℕ) (l : List ℕ) → n + w ≤ length l → w ≤ length (take (length l - n) (drop n l))
-tail-room w n l h = rw (tail n l) (omega (arith, length-drop n l))

@@ -10,6 +10,7 @@ pub mod TruthWords
 pub mod LinkWords
 pub mod Asks
 pub mod Sifting
+pub mod Stepping
 pub mod Spreading
 pub mod Rounding
 pub mod Settling

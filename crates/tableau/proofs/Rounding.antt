@@ -23,7 +23,7 @@ use Rattle.tableau.specs.Tables.{argAt, form, leftAt, rightAt, tagAt}
 use Rattle.tableau.specs.Blocks.{has}
 use Rattle.tableau.specs.Truths.{Tr, trueAt}
 use Rattle.tableau.specs.Links.{Lk}
-use Rattle.tableau.specs.Families.{Good, Next, Ready, Round, lacks, listOf, passes}
+use Rattle.tableau.specs.Families.{Good, Next, Ready, Round, lacks, listOf}
 use Rattle.tableau.proofs.ListWords.{held, list-elem}
 use Rattle.tableau.proofs.MemberLaws.{all-forms, form-tag, tag-of}
 use Rattle.tableau.proofs.TruthLaws.{truth-bit}
@@ -38,6 +38,10 @@ not-and false e = refl
 and-same : (a b c : Bool) → (a ≡ true → b ≡ c) → (a && b) ≡ (a && c)
 and-same true b c f = f refl
 and-same false b c f = refl
+
+or-same : (a b c : Bool) → (a ≡ true → b ≡ c) → (not a || b) ≡ (not a || c)
+or-same true b c f = f refl
+or-same false b c f = refl
 
 -- a member that asks for nothing
 good-other : (ms ln fam : List ℕ) (p : Form) → (tag p ≡ 6 → ⊥) → (tag p ≡ 8 → ⊥) → (tag p ≡ 9 → ⊥) → Good ms ln fam p ≡ fam
@@ -99,32 +103,30 @@ module _ {ms ln : List ℕ} {w : ℕ} {tw lw : List ℕ} (r : Ready ms ln w tw l
           all-stay (λ t l m. elem-ex e t l
           ∙ ap₂ (λ x y. x && imp (y && trueAt ms ln i t) (Next ms ln (listOf w src) (argAt ms i) (form ms (leftAt ms i)) t)) m (false-of (single (argAt ms i)) (λ q. f (ap single ea ∙ q))))
 
-    -- those that are in u stay, and those in which the member is false
-    module _ (dst′ u : List ℕ) (q : dst′ ≡ packed w (λ t. member dst t && (not (has w tw i t) || member u t)) dst) where
-      confined : ((t : ℕ) → t < w * 64 → member dst t ≡ true → (not (trueAt ms ln i t) || member u t) ≡ not (lacks ms ln (listOf w src) t (form ms i)))
+    -- those that pass R stay, and those in which the member is false
+    module _ (dst′ : List ℕ) (R : ℕ → Bool) (q : dst′ ≡ packed w (λ t. member dst t && (not (has w tw i t) || R t)) dst) where
+      confined : ((t : ℕ) → t < w * 64 → member dst t ≡ true → (not (trueAt ms ln i t) || R t) ≡ not (lacks ms ln (listOf w src) t (form ms i)))
           → dst′ ≡ packed w (λ t. member dst t && not (lacks ms ln (listOf w src) t (form ms i))) dst
       confined f =
-          q ∙ packed-ext (λ t. member dst t && (not (has w tw i t) || member u t)) stay dst w
-          (λ t l. and-same (member dst t) _ _ (λ m. ap (λ x. not x || member u t) (truth-bit (r .truths) i h t l) ∙ f t l m))
+          q ∙ packed-ext (λ t. member dst t && (not (has w tw i t) || R t)) stay dst w
+          (λ t l. and-same (member dst t) _ _ (λ m. ap (λ x. not x || R t) (truth-bit (r .truths) i h t l) ∙ f t l m))
 
-      pub kept-until : ((t : ℕ) → t < w * 64 → member u t ≡ elem t (Good ms ln (listOf w src) (form ms i))) → dst′ ≡ packed w (λ t. member dst t && not (lacks ms ln (listOf w src) t (form ms i))) dst
-      unfolding Goods
-      kept-until f = confined (λ t l m. ap (λ x. not (trueAt ms ln i t) || x) (f t l) ∙ sym (unlacking t))
-
-      pub kept-ex : (todo : List ℕ) (a : ℕ) → ((t : ℕ) → t < w * 64 → member dst t ≡ true → member src t ≡ true) → tagAt ms i ≡ 6 → a ≡ argAt ms i → single a ≡ true
-          → ((t : ℕ) → t < w * 64 → member todo t ≡ (member src t && has w tw i t)) → ((t : ℕ) → t < w * 64 → member u t ≡ (member todo t && passes ms ln (listOf w src) t (form ms i)))
+      pub kept-until : ((t : ℕ) → t < w * 64 → member dst t ≡ true → has w tw i t ≡ true → R t ≡ elem t (Good ms ln (listOf w src) (form ms i)))
           → dst′ ≡ packed w (λ t. member dst t && not (lacks ms ln (listOf w src) t (form ms i))) dst
-      unfolding passes
-      kept-ex todo a sub e ea sg ft fu =
-          confined (λ t l m. ap (λ x. not (trueAt ms ln i t) || x)
-          (fu t l ∙ ap₂ _&&_ (ft t l ∙ ap₂ _&&_ (sub t l m) (truth-bit (r .truths) i h t l)) (ap (passes ms ln (listOf w src) t) (form-tag (r .table) i h 6 e) ∙ ap (λ x. imp x (N t)) (sym (ap single ea) ∙ sg)))
+      unfolding Goods
+      kept-until f = confined (λ t l m. or-same (trueAt ms ln i t) _ _ (λ e. f t l m (truth-bit (r .truths) i h t l ∙ e)) ∙ sym (unlacking t))
+
+      pub kept-ex : (a p : ℕ) → ((t : ℕ) → t < w * 64 → member dst t ≡ true → member src t ≡ true) → tagAt ms i ≡ 6 → a ≡ argAt ms i → single a ≡ true → p ≡ leftAt ms i
+          → ((t : ℕ) → t < w * 64 → R t ≡ Next ms ln (listOf w src) a (form ms p) t) → dst′ ≡ packed w (λ t. member dst t && not (lacks ms ln (listOf w src) t (form ms i))) dst
+      kept-ex a p sub e ea sg ep f =
+          confined (λ t l m. ap (λ x. not (trueAt ms ln i t) || x) (f t l ∙ ap₂ (λ x y. Next ms ln (listOf w src) x (form ms y) t) ea ep)
           ∙ same (trueAt ms ln i t) (N t)
           ∙ sym (unlacking t ∙ ap (λ x. not (trueAt ms ln i t) || x) (elem-ex e t l ∙ ap₂ (λ x y. x && imp (y && trueAt ms ln i t) (N t)) (sub t l m) (sym (ap single ea) ∙ sg))))
         where
           N : ℕ → Bool
           N t = Next ms ln (listOf w src) (argAt ms i) (form ms (leftAt ms i)) t
 
-          same : (b n : Bool) → (not b || ((true && b) && n)) ≡ (not b || (true && imp (true && b) n))
+          same : (b n : Bool) → (not b || n) ≡ (not b || (true && imp (true && b) n))
           same true n = refl
           same false n = refl
 

@@ -1,75 +1,118 @@
--- The loop that goes through a set of types and collects those that pass a test. Assumes nothing.
-use mathlib.Core.Path.{_≡_, refl, sym, ap, ap₂, _∙_, subst}
-use mathlib.Core.Bool.{and-true, and-false, or-false, Bool, true, false, not, _&&_, cond, Bool·beq, _||_}
+-- The loop that goes through the numbers of a word, from the lowest on, and keeps those that pass a test. Assumes nothing.
+use mathlib.Core.Path.{_≡_, refl, sym, ap, ap₂, _∙_}
+use mathlib.Core.Bool.{and-true, and-false, or-false, Bool, true, false, not, _&&_, _||_}
 use mathlib.Core.List.{List}
-use Prim.Native.Nat.{ℕ, _*_, _≤_, _<_}
+use Prim.Native.Nat.{ℕ, zero, suc, _+_, _-_, _*_, _/_, _%_, _^_, _≤_, _<_}
 use native.Mathlib.Omega.{arith}
-use lib.Dec.{eqb}
-use lib.ListN.{length, length-set}
-use borrow.Author.Tests.{eqb-true, eq-eqb}
-use Rattle.ctl.proofs.BoolLaws.{and-both}
-use Rattle.wordset.proofs.BelowLaws.{all-false, least-below, least-holds, least-le}
-use Rattle.wordset.proofs.CompareLaws.{count-fewer}
-use Rattle.wordset.proofs.SetLaws.{member-with, member-without}
-use Rattle.wordset.specs.Below.{count, least}
-use Rattle.wordset.specs.Words.{member, packed, with, without}
-use Rattle.tableau.proofs.ListWords.{held}
+use native.Mathlib.Nat.{pow-suc}
+use lib.Arith.{lt-one}
+use lib.Bits.{bitAnd, and-le-r}
+use lib.Count.{trailingZeros, under}
+use lib.Dec.{eqb, eqb·suc-zero, eqb·suc-suc}
+use borrow.Author.Tests.{eqb-true, eq-eqb, ne-eqb}
+use Rattle.wordset.proofs.BelowLaws.{least-below, least-holds, least-is, least-le, least-lt}
+use Rattle.wordset.proofs.BitLaws.{any-bit, bit-and, bit-minus, bit-none, bit-suc, bit-zero, trailing-least}
+use Rattle.wordset.specs.Answers.{Answers}
+use Rattle.wordset.specs.Below.{least}
+use Rattle.wordset.specs.Word.{bit}
+use Rattle.wordset.specs.Words.{member}
 
--- `todo` is still to come, and v has those that passed Q: with those that are to come, all of the set `whole` that pass
-pub record Sifting (Q : ℕ → Bool) (w : ℕ) (whole todo₀ v₀ todo v : List ℕ) : Type 0 where
-  pub long : length todo ≡ length todo₀
-  pub long′ : length v ≡ length v₀
-  pub is : (t : ℕ) → t < w * 64 → (member v t || (member todo t && Q t)) ≡ (member whole t && Q t)
+-- ---- the lowest number of a word, and the word without it
 
--- t is taken out of `todo`, and put into v if b
-module _ (v todo : List ℕ) (t : ℕ) (h : t < length v * 64) (h′ : t < length todo * 64) where
-  put-in : (b : Bool) (j : ℕ) → member (cond b (with v t) v) j ≡ (member v j || (eqb j t && b))
-  put-in true j = member-with v t j h ∙ ap (λ x. member v j || x) (sym (and-true (eqb j t)))
-  put-in false j = sym (ap (λ x. member v j || x) (and-false (eqb j t)) ∙ or-false (member v j))
+pub lowest : (k x : ℕ) → k ≤ 64 → x < 2 ^ k → (x ≡ 0 → ⊥) → (trailingZeros 64 x < k) × (bit x (trailingZeros 64 x) ≡ true)
+lowest k x g h n =
+    let l = least-lt k (bit x) (any-bit k x h ∙ ap not (ne-eqb x 0 n)) in
+    let e : trailingZeros 64 x ≡ least k (bit x) = trailing-least 64 x ∙ least-is 64 (bit x) (least k (bit x)) (omega arith) (least-holds k (bit x) l) (least-below k (bit x)) in
+    (omega arith, ap (bit x) e ∙ least-holds k (bit x) l)
 
-  turn : (v d q b x : Bool) → (x ≡ true → (d ≡ true) × (b ≡ q)) → ((v || (x && b)) || ((d && not x) && q)) ≡ (v || (d && q))
-  turn true d q b x f = refl
-  turn false d q b true f = ap (λ z. b || (z && q)) (and-false d) ∙ or-false b ∙ f refl .1 ∙ sym (ap (λ z. z && q) (f refl .0))
-  turn false d q b false f = ap (λ z. z && q) (and-true d)
+-- x & (x - 1)
+abbrev pub less : ℕ → ℕ
+less x = bitAnd x (x - 1)
 
-  -- the numbers that passed, or are to come and pass, stay the same
-  same : (Q : ℕ → Bool) (b : Bool) → b ≡ Q t → member todo t ≡ true → (j : ℕ) → (member (cond b (with v t) v) j || (member (without todo t) j && Q j)) ≡ (member v j || (member todo j && Q j))
-  same Q b e m j =
-      ap₂ (λ x y. x || (y && Q j)) (put-in b j) (member-without todo t j h′)
-      ∙ turn (member v j) (member todo j) (Q j) b (eqb j t) (λ x. (let q : j ≡ t = eqb-true j t x in (ap (member todo) q ∙ m, e ∙ ap Q (sym q))))
+pub less-lt : (x : ℕ) → (x ≡ 0 → ⊥) → less x < x
+less-lt x n = let q = and-le-r x (x - 1) in omega arith
 
-  fewer-left : (n : ℕ) → t < n → member todo t ≡ true → count n (member (without todo t)) < count n (member todo)
-  fewer-left n l m =
-      count-fewer (member todo) (member (without todo t)) n (λ j q. and-both (member todo j) _ (sym (member-without todo t j h′) ∙ q) .0)
-      (all-false (λ j. Bool·beq (member todo j) (member (without todo t) j)) n t l (ap₂ Bool·beq m (member-without todo t t h′ ∙ ap₂ (λ x y. x && not y) m (eq-eqb t t refl))))
+idem : (b : Bool) → (b && b) ≡ b
+idem true = refl
+idem false = refl
 
-module _ {Q : ℕ → Bool} {w : ℕ} {whole : List ℕ} where
-  pub sift-start : {v : List ℕ} (d : List ℕ) → w ≤ length d → v ≡ packed w (λ j. false) d → Sifting Q w whole whole v whole v
-  sift-start {v} d h e = record { long = refl; long′ = refl; is = λ t l. ap (λ x. x || (member whole t && Q t)) (held (λ j. false) d v w h e t l) }
+-- a digit of x and x - 1, by the last digit d of x
+lower-by : (k x d : ℕ) → x % 2 ≡ d → (x ≡ 0 → ⊥)
+    → ((x / 2 ≡ 0 → ⊥) → (c : ℕ) → (bit (x / 2) c && bit (x / 2 - 1) c) ≡ (bit (x / 2) c && not (eqb c (trailingZeros k (x / 2)))))
+    → (c : ℕ) → (bit x c && bit (x - 1) c) ≡ (bit x c && not (eqb c (under d (trailingZeros k (x / 2)))))
+lower-by k x zero e n f zero =
+    let z : bit x 0 ≡ false = bit-zero x ∙ ap (λ (n : ℕ). eqb n 1) e in
+    ap (λ b. b && bit (x - 1) 0) z ∙ sym (ap (λ b. b && not (eqb 0 (suc (trailingZeros k (x / 2))))) z)
+lower-by k x zero e n f (suc c) =
+    let h : (x - 1) / 2 ≡ x / 2 - 1 = omega arith in
+    ap₂ _&&_ (bit-suc x c) (bit-suc (x - 1) c ∙ ap (λ (n : ℕ). bit n c) h) ∙ f (λ q. n (omega arith)) c
+    ∙ sym (ap₂ (λ a b. a && not b) (bit-suc x c) (eqb·suc-suc c (trailingZeros k (x / 2))))
+lower-by k x (suc zero) e n f zero =
+    let h : (x - 1) % 2 ≡ 0 = omega arith in
+    ap (λ b. bit x 0 && b) (bit-zero (x - 1) ∙ ap (λ (n : ℕ). eqb n 1) h) ∙ sym (ap (λ b. bit x 0 && not b) (eq-eqb 0 0 refl))
+lower-by k x (suc zero) e n f (suc c) =
+    let h : (x - 1) / 2 ≡ x / 2 = omega arith in
+    ap (λ b. bit x (suc c) && b) (bit-suc (x - 1) c ∙ ap (λ (n : ℕ). bit n c) h ∙ sym (bit-suc x c)) ∙ idem (bit x (suc c))
+    ∙ sym (ap (λ b. bit x (suc c) && not b) (eqb·suc-zero c) ∙ and-true (bit x (suc c)))
+lower-by k x (suc (suc d)) e n f c = absurd (omega arith)
 
-  module _ {todo₀ v₀ todo v : List ℕ} (s : Sifting Q w whole todo₀ v₀ todo v) (h : w ≤ length todo₀) (h′ : w ≤ length v₀) (t : ℕ) (l : t < w * 64) (m : member todo t ≡ true) where
-    sift-on : (b : Bool) → b ≡ Q t → Sifting Q w whole todo₀ v₀ (without todo t) (cond b (with v t) v)
-    sift-on b e = record {
-      long = length-set todo _ _ ∙ s .long;
-      long′ = long-v b ∙ s .long′;
-      is = λ j k. same v todo t (let e = s .long′ in omega arith) (let e = s .long in omega arith) Q b e m j ∙ s .is j k;
-    }
-      where
-        long-v : (b : Bool) → length (cond b (with v t) v) ≡ length v
-        long-v true = length-set v _ _
-        long-v false = refl
+lower : (k x : ℕ) → (x ≡ 0 → ⊥) → x < 2 ^ k → (c : ℕ) → (bit x c && bit (x - 1) c) ≡ (bit x c && not (eqb c (trailingZeros k x)))
+unfolding trailingZeros
+lower zero x n h c = absurd (n (lt-one h))
+lower (suc k) x n h c = let p = pow-suc 2 k in lower-by k x (x % 2) refl n (λ m. lower k (x / 2) m (omega arith)) c
 
-    pub sift-next : (b : Bool) (todo′ v′ : List ℕ) → b ≡ Q t → todo′ ≡ without todo t → v′ ≡ cond b (with v t) v → Sifting Q w whole todo₀ v₀ todo′ v′
-    sift-next b todo′ v′ e p q = subst (λ x. Sifting Q w whole todo₀ v₀ x v′) (sym p) (subst (λ y. Sifting Q w whole todo₀ v₀ (without todo t) y) (sym q) (sift-on b e))
+pub less-bit : (x : ℕ) → (x ≡ 0 → ⊥) → x < 2 ^ 64 → (c : ℕ) → bit (less x) c ≡ (bit x c && not (eqb c (trailingZeros 64 x)))
+less-bit x n h c = bit-and x (x - 1) c ∙ lower 64 x n h c
 
-    pub sift-less : (todo′ : List ℕ) → todo′ ≡ without todo t → count (w * 64) (member todo′) < count (w * 64) (member todo)
-    sift-less todo′ p =
-        subst (λ x. count (w * 64) (member x) < count (w * 64) (member todo)) (sym p) (fewer-left v todo t (let e = s .long′ in omega arith) (let e = s .long in omega arith) (w * 64) l m)
+-- x & !(x & (x - 1)) has the lowest alone
+abbrev pub least-word : ℕ → ℕ
+least-word x = bitAnd x ((2 ^ 64 - 1) - less x)
+
+least-bit : (x : ℕ) → (x ≡ 0 → ⊥) → x < 2 ^ 64 → (c : ℕ) → c < 64 → bit (least-word x) c ≡ eqb c (trailingZeros 64 x)
+least-bit x n h c l =
+    bit-minus 64 c x (less x) (let q = less-lt x n in omega arith) l ∙ ap (λ z. bit x c && not z) (less-bit x n h c)
+    ∙ only (bit x c) (eqb c (trailingZeros 64 x)) (λ e. ap (bit x) (eqb-true c (trailingZeros 64 x) e) ∙ lowest 64 x (omega arith) h n .1)
+  where
+    only : (b e : Bool) → (e ≡ true → b ≡ true) → (b && not (b && not e)) ≡ e
+    only true true f = refl
+    only true false f = refl
+    only false true f = f refl
+    only false false f = refl
+
+-- ---- the loop
+
+-- `rest` is still to come, and acc has those that passed Q: with those that are to come, all of the word x that pass
+pub record Sifting (Q : ℕ → Bool) (x rest acc : ℕ) : Type 0 where
+  pub small : acc < 2 ^ 64
+  pub fits : rest < 2 ^ 64
+  pub is : (c : ℕ) → c < 64 → (bit acc c || (bit rest c && Q c)) ≡ (bit x c && Q c)
+
+turn : (v d q b x : Bool) → (x ≡ true → (d ≡ true) × (b ≡ q)) → ((v || (x && b)) || ((d && not x) && q)) ≡ (v || (d && q))
+turn true d q b x f = refl
+turn false d q b true f = ap (λ z. b || (z && q)) (and-false d) ∙ or-false b ∙ f refl .1 ∙ sym (ap (λ z. z && q) (f refl .0))
+turn false d q b false f = ap (λ z. z && q) (and-true d)
+
+pub sift-start : {Q : ℕ → Bool} {x : ℕ} → x < 2 ^ 64 → Sifting Q x x 0
+sift-start {Q} {x} h = record { small = omega arith; fits = h; is = λ c l. ap (λ z. z || (bit x c && Q c)) (bit-none c) }
+
+module _ {Q : ℕ → Bool} {x rest acc : ℕ} (s : Sifting Q x rest acc) where
+  -- the lowest is taken out of `rest`, and put into acc if it passes
+  pub sift-next : (rest ≡ 0 → ⊥) → (on : Bool) (acc′ : ℕ) → on ≡ Q (trailingZeros 64 rest) → acc′ < 2 ^ 64
+      → ((c : ℕ) → bit acc′ c ≡ (bit acc c || (bit (least-word rest) c && on))) → Sifting Q x (less rest) acc′
+  sift-next n on acc′ e k f = record {
+    small = k;
+    fits = (let a = s .fits in let b = less-lt rest n in omega arith);
+    is = λ c l. ap₂ (λ p q. p || (q && Q c)) (f c ∙ ap (λ z. bit acc c || (z && on)) (least-bit rest n (s .fits) c l)) (less-bit rest n (s .fits) c)
+        ∙ turn (bit acc c) (bit rest c) (Q c) on (eqb c (trailingZeros 64 rest))
+        (λ z. (let q : c ≡ trailingZeros 64 rest = eqb-true c (trailingZeros 64 rest) z in (ap (bit rest) q ∙ lowest 64 rest (omega arith) (s .fits) n .1, e ∙ ap Q (sym q)))) ∙ s .is c l;
+  }
 
   -- nothing is left
-  pub sift-end : {todo₀ v₀ todo v : List ℕ} → Sifting Q w whole todo₀ v₀ todo v → w * 64 ≡ least (w * 64) (member todo) → (t : ℕ) → t < w * 64 → member v t ≡ (member whole t && Q t)
-  sift-end {todo₀} {v₀} {todo} {v} s e t l =
-      sym (ap (λ x. member v t || (x && Q t)) (least-below (w * 64) (member todo) t (omega arith)) ∙ or-false (member v t)) ∙ s .is t l
+  pub sift-end : (P : ℕ → Bool) (R : ℕ → Bool) (k : ℕ) → rest ≡ 0 → ((b : ℕ) → Q b ≡ R (k * 64 + b)) → Answers P k x → Answers (λ t. P t && R t) k acc
+  sift-end P R k e f a = record {
+    small = s .small;
+    each = λ b h. ap₂ _&&_ (a .each b h) (sym (f b)) ∙ sym (s .is b h) ∙ ap (λ (n : ℕ). bit acc b || (bit n b && Q b)) e ∙ ap (λ z. bit acc b || (z && Q b)) (bit-none b) ∙ or-false (bit acc b);
+  }
 
 -- the least member, where there is one
 pub least-in : (w : ℕ) (ws : List ℕ) (t : ℕ) → t ≡ least (w * 64) (member ws) → (t ≡ w * 64 → ⊥) → (t < w * 64) × (member ws t ≡ true)

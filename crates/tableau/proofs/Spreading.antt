@@ -8,7 +8,7 @@ use native.Mathlib.Omega.{arith}
 use lib.Dec.{T, T-not}
 use lib.ListN.{length}
 use Rattle.ctl.specs.Elimination as E
-use Rattle.ctl.proofs.BoolLaws.{and-both, not-or, false-T, T-cast, T-cast⁻, T-true, and-0, and-1, and-in, both-ways, imp-in, imp-out, not-absurd, or-0, or-out}
+use Rattle.ctl.proofs.BoolLaws.{true-T, and-both, not-or, false-T, T-cast, T-cast⁻, T-true, and-0, and-1, and-in, both-ways, imp-in, imp-out, not-absurd, or-0, or-out}
 use Rattle.ctl.proofs.GrowLaws.{reach-first, reach-next, reach-out}
 use Rattle.ctl.proofs.ListLaws.{all-in, all-out, any-in, any-out, elem-in, elem-out}
 use Rattle.ctl.specs.ClosedFamily.{oneOf}
@@ -16,11 +16,11 @@ use Rattle.ctl.specs.Elimination.{reach}
 use Rattle.ctl.specs.Formula.{Form, and, ar, au, ax, er, eu, ex, fls, lit, nlit, or, tru}
 use Rattle.ctl.specs.Modes.{single}
 use Rattle.ctl.specs.Lists.{_∈_, elem}
-use Rattle.wordset.proofs.BelowLaws.{all-false, same-or, least-below, lt-or-le}
+use Rattle.wordset.proofs.BelowLaws.{all-false, any-false, same-or, least-below, lt-or-le}
 use Rattle.wordset.proofs.CompareLaws.{count-fewer}
 use Rattle.wordset.proofs.PackLaws.{packWord}
 use Rattle.wordset.proofs.WordLaws.{member-past}
-use Rattle.wordset.specs.Below.{count, least}
+use Rattle.wordset.specs.Below.{any, count, least}
 use Rattle.wordset.specs.Words.{join, member}
 use Rattle.closure.specs.Members.{forms}
 use Rattle.tableau.specs.Tables.{form, leftAt, rightAt, tagAt}
@@ -127,6 +127,21 @@ module _ {ms ln : List ℕ} {w : ℕ} {tw lw : List ℕ} (r : Ready ms ln w tw l
       here t l = ap (λ j. has w tw j t) e ∙ truth-bit (r .truths) (rightAt ms i) (right-in (r .table) i h (let a = g .0 in omega arith)) t l
 
   module _ {u₀ todo₀ v₀ u todo v : List ℕ} (s : Spreading ms ln w i src u₀ todo₀ v₀ u todo v) where
+    -- it has all that are asked for
+    pub spread-covers : (dst : List ℕ) → true ≡ not (any (w * 64) (λ t. (member dst t && has w tw i t) && not (member u t)))
+        → (t : ℕ) → t < w * 64 → member dst t ≡ true → has w tw i t ≡ true → member u t ≡ elem t (Good ms ln (listOf w src) (form ms i))
+    spread-covers dst e t l m k =
+        let q = inside (member dst t) (has w tw i t) (member u t) m k (any-false (λ t. (member dst t && has w tw i t) && not (member u t)) (w * 64) (none _ e) t l) in
+        q ∙ sym (true-T _ (elem-in (s .sound t l (T-true _ q)))) ∙ ap (elem t) good-is
+      where
+        none : (b : Bool) → true ≡ not b → b ≡ false
+        none true e = e
+        none false e = refl
+
+        inside : (a b c : Bool) → a ≡ true → b ≡ true → ((a && b) && not c) ≡ false → c ≡ true
+        inside a b true p q e = refl
+        inside a b false p q e = sym e ∙ ap₂ (λ x y. (x && y) && true) p q
+
     -- those that are looked at in a turn, and those that are found
     module _ (p : ℕ) (e : p ≡ leftAt ms i) (a b v′ : List ℕ) (fa : (t : ℕ) → t < w * 64 → member a t ≡ (member src t && has w tw p t)) (fb : (t : ℕ) → t < w * 64 → member b t ≡ (member a t && not (member u t)))
         (fv : (t : ℕ) → t < w * 64 → member v′ t ≡ (member b t && passes ms ln (listOf w u) t (form ms i))) where
@@ -144,9 +159,9 @@ module _ {ms ln : List ℕ} {w : ℕ} {tw lw : List ℕ} (r : Ready ms ln w tw l
       inside : (x : ℕ) → x ∈ listOf w u → x ∈ Reached ms ln w i src
       inside x m = let k = list-out w u m in s .sound x (k .0) (k .1)
 
-      pub spread-on : (u′ todo′ : List ℕ) → w ≤ length u → length todo′ ≡ length todo₀ → length v′ ≡ length v₀ → length u′ ≡ length u → u′ ≡ join w u v′ → Spreading ms ln w i src u₀ todo₀ v₀ u′ todo′ v′
+      pub spread-on : (u′ todo′ w′ : List ℕ) → w ≤ length u → length todo′ ≡ length todo₀ → length w′ ≡ length v₀ → length u′ ≡ length u → u′ ≡ join w u v′ → Spreading ms ln w i src u₀ todo₀ v₀ u′ todo′ w′
       unfolding Reached
-      spread-on u′ todo′ k lt lv lu q = record {
+      spread-on u′ todo′ w′ k lt lv lu q = record {
         long = lu ∙ s .long;
         long-todo = lt;
         long-v = lv;

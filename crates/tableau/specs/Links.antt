@@ -1,11 +1,13 @@
 -- Links between types, by words. Assumes nothing.
 use mathlib.Core.Path.{_≡_}
-use mathlib.Core.Bool.{Bool, cond}
+use mathlib.Core.Bool.{Bool, _&&_, cond}
 use mathlib.Core.List.{List}
 use Prim.Native.Nat.{ℕ, _+_, _*_, _≤_, _<_}
 use lib.ListN.{length}
 use Rattle.ctl.specs.Links.{link, linkBy, linkRule}
 use Rattle.ctl.specs.Lists.{imp}
+use Rattle.wordset.specs.Below.{any}
+use Rattle.wordset.specs.Word.{bit}
 use Rattle.closure.specs.Members.{forms}
 use Rattle.tableau.specs.Tables.{form, leanForms}
 use Rattle.tableau.specs.Blocks.{has}
@@ -18,6 +20,13 @@ Lk ms ln = linkBy (forms ms) (leanForms ms ln)
 pub record Rows (ms ln : List ℕ) (w : ℕ) (lw : List ℕ) : Type 0 where
   pub room : w * 1024 * w ≤ length lw
   pub rows : (t m u : ℕ) → t < w * 64 → m < 16 → u < w * 64 → has w lw (t * 16 + m) u ≡ Lk ms ln m t u
+
+-- by those words t is linked by mode m to a type that passes S, or to a type that word y at j has
+unfoldable pub meets : ℕ → List ℕ → ℕ → (ℕ → Bool) → ℕ → Bool
+meets w lw m S t = any (w * 64) (λ c. has w lw (t * 16 + m) c && S c)
+
+unfoldable pub meetsAt : ℕ → List ℕ → ℕ → ℕ → ℕ → ℕ → Bool
+meetsAt w lw m j y t = any 64 (λ b. has w lw (t * 16 + m) (j * 64 + b) && bit y b)
 
 -- ---- how they are found
 

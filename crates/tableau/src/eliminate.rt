@@ -6,92 +6,131 @@ use crate::members::left;
 use crate::members::mode_of;
 use crate::members::right;
 use crate::members::tag;
-use crate::truth::bit_at;
 ghost use mathlib.Core.Path.{_≡_};
-ghost use mathlib.Core.Bool.{Bool·beq, true, not, _&&_, _||_};
-ghost use Prim.Native.Nat.{ℕ, _+_, _*_, _≤_, _<_};
+ghost use mathlib.Core.Bool.{Bool, Bool·beq, true, not, _&&_, _||_};
+ghost use Prim.Native.Nat.{ℕ, _+_, _*_, _^_, _≤_, _<_};
 ghost use lib.ListN.{length};
 ghost use Rattle.ctl.specs.Lists as L;
 ghost use Rattle.ctl.specs.Lists.{elem};
 ghost use Rattle.ctl.specs.Modes.{hasMode};
+ghost use Rattle.wordset.specs.Answers.{Answers};
 ghost use Rattle.wordset.specs.Below.{all, any};
+ghost use Rattle.wordset.specs.Word.{bit};
 ghost use Rattle.wordset.specs.Words.{member, packed};
 ghost use Rattle.closure.specs.Members.{forms};
 ghost use Rattle.tableau.specs.Tables.{form, tagAt};
 ghost use Rattle.tableau.specs.Blocks.{has};
-ghost use Rattle.tableau.specs.Families.{Follows, Good, Linked, Ready, Round, Rounds, Survivors, lacks, listOf, passes};
+ghost use Rattle.tableau.specs.Links.{meets, meetsAt};
+ghost use Rattle.tableau.specs.Families.{Follows, Good, Ready, Round, Rounds, Survivors, lacks, listOf, passes};
 
-// Whether u has a type with member p that t is linked to by mode m.
-fn meets(
-    ms: &[u64],
-    ln: &[u8],
-    w: usize,
+// Word x with the numbers of word y, if on is true.
+fn join_if(x: u64, y: u64, on: bool) -> u64
+    ensures { λ r. ⌜ (r < 2 ^ 64) × ((c : ℕ) → bit r c ≡ (bit x c || (bit y c && on))) ⌝ }
+{
+    if on {
+        return x | y;
+    }
+    x
+}
+
+// Of the types that word x at k has, those that are not linked by mode m to a type of word y at j. Only the types of x are visited.
+fn unlinked_word(lw: &[u64], w: usize, m: usize, j: usize, y: u64, k: usize, x: u64) -> u64
+    requires { ⌜ (w * 1024 * w ≤ length (now lw)) × (w ≤ 1024) × (m < 16) × (j < w) × (k < w) ⌝ }
+    ensures { λ r. ⌜ ((P : ℕ → Bool) → Answers P k x → Answers (λ t. P t && not (meetsAt w (now (lw .entry)) m j y t)) k r) ⌝ }
+{
+    let mut acc: u64 = 0;
+    let mut rest = x;
+    while rest != 0 {
+        let b = u64::trailing_zeros(rest) as usize;
+        let at = ((k * 64 + b) * 16 + m) * w + j;
+        let next = rest & (rest - 1);
+        acc = join_if(acc, rest & !next, lw[at] & y == 0);
+        rest = next;
+    }
+    acc
+}
+
+// Those of dst stay that are not linked by mode m to a type of word y at j.
+fn drop_linked_word(dst: &mut [u64], lw: &[u64], w: usize, m: usize, j: usize, y: u64)
+    requires { ⌜ (w * 1024 * w ≤ length (now lw)) × (w ≤ 1024) × (m < 16) × (j < w) × (w ≤ length (now dst)) ⌝ }
+    ensures { λ _. ⌜ ((t : ℕ) → t < w * 64 → member (now (dst .exit)) t ≡ (member (now (dst .entry)) t && not (meetsAt w (now (lw .entry)) m j y t))) ⌝ }
+{
+    if y == 0 {
+        return;
+    }
+    let mut k = 0;
+    while k < w {
+        let x = dst[k];
+        dst[k] = unlinked_word(lw, w, m, j, y, k, x);
+        k += 1;
+    }
+}
+
+// Those of dst stay that are not linked by mode m to a type of u.
+fn drop_linked(dst: &mut [u64], u: &[u64], lw: &[u64], w: usize, m: usize)
+    requires { ⌜ (w * 1024 * w ≤ length (now lw)) × (w ≤ 1024) × (m < 16) × (w ≤ length (now dst)) × (w ≤ length (now u)) ⌝ }
+    ensures { λ _. ⌜ ((t : ℕ) → t < w * 64 → member (now (dst .exit)) t ≡ (member (now (dst .entry)) t && not (meets w (now (lw .entry)) m (member (now (u .entry))) t))) ⌝ }
+{
+    let mut j = 0;
+    while j < w {
+        drop_linked_word(dst, lw, w, m, j, u[j]);
+        j += 1;
+    }
+}
+
+// Those of dst stay that are not linked by mode m to a type of u in block p.
+fn drop_linked_in(dst: &mut [u64], u: &[u64], tw: &[u64], lw: &[u64], w: usize, m: usize, p: usize)
+    requires { ⌜ (w * 1024 * w ≤ length (now lw)) × (w ≤ 1024) × (m < 16) × (w ≤ length (now dst)) × (w ≤ length (now u)) × (p * w + w ≤ length (now tw)) ⌝ }
+    ensures { λ _. ⌜ ((t : ℕ) → t < w * 64 → member (now (dst .exit)) t ≡ (member (now (dst .entry)) t && not (meets w (now (lw .entry)) m (λ c. member (now (u .entry)) c && has w (now (tw .entry)) p c) t))) ⌝ }
+{
+    let mut j = 0;
+    while j < w {
+        let at = p * w + j;
+        drop_linked_word(dst, lw, w, m, j, u[j] & tw[at]);
+        j += 1;
+    }
+}
+
+// Those of dst stay that are not in block i, or are linked by mode m to a type of u in block p. The first w words of v are overwritten.
+fn confine_linked(
+    dst: &mut [u64],
+    v: &mut [u64],
+    u: &[u64],
     tw: &[u64],
     lw: &[u64],
-    t: usize,
+    w: usize,
+    i: usize,
     m: usize,
     p: usize,
-    u: &[u64],
-) -> bool
-    requires { ⌜ Ready (now ms) (now ln) w (now tw) (now lw) ⌝ }
-    requires { ⌜ (t < w * 64) × (m < 16) × (p < length (now ms)) × (w ≤ length (now u)) ⌝ }
-    ensures { λ r. ⌜ r ≡ any (w * 64) (λ j. has w (now (lw .entry)) (t * 16 + m) j && has w (now (tw .entry)) p j && member (now (u .entry)) j) ⌝ }
+)
+    requires { ⌜ (w * 1024 * w ≤ length (now lw)) × (w ≤ 1024) × (m < 16) × (i * w + w ≤ length (now tw)) × (p * w + w ≤ length (now tw)) ⌝ }
+    requires { ⌜ (w ≤ length (now dst)) × (w ≤ length (now v)) × (w ≤ length (now u)) ⌝ }
+    ensures { λ _. ⌜ now (dst .exit) ≡ packed w (λ t. member (now (dst .entry)) t && (not (has w (now (tw .entry)) i t) || meets w (now (lw .entry)) m (λ c. member (now (u .entry)) c && has w (now (tw .entry)) p c) t)) (now (dst .entry)) ⌝ }
 {
-    let a = (t * 16 + m) * w;
-    let b = p * w;
-    wordset::intersects3(&lw[a..], &tw[b..], u, w)
+    pick(v, dst, tw, w, i);
+    drop_linked_in(v, u, tw, lw, w, m, p);
+    wordset::subtract(dst, v, w);
 }
 
-// Whether u has a type that t is linked to by mode m, if that is one of the modes a.
-fn steps_by(
-    ms: &[u64],
-    ln: &[u8],
-    w: usize,
-    tw: &[u64],
-    lw: &[u64],
-    a: u64,
-    m: usize,
-    t: usize,
-    u: &[u64],
-) -> bool
-    requires { ⌜ Ready (now ms) (now ln) w (now tw) (now lw) ⌝ }
-    requires { ⌜ (t < w * 64) × (m < 16) × (w ≤ length (now u)) ⌝ }
-    ensures { λ r. ⌜ r ≡ (hasMode a m && any (w * 64) (λ j. has w (now (lw .entry)) (t * 16 + m) j && member (now (u .entry)) j)) ⌝ }
+// Those of dst stay that are linked by one of the modes a to a type of u. The first w words of v are overwritten.
+fn step(dst: &mut [u64], v: &mut [u64], u: &[u64], lw: &[u64], w: usize, a: u64)
+    requires { ⌜ (w * 1024 * w ≤ length (now lw)) × (w ≤ 1024) × (a < 65536) ⌝ }
+    requires { ⌜ (w ≤ length (now dst)) × (w ≤ length (now v)) × (w ≤ length (now u)) ⌝ }
+    ensures { λ _. ⌜ ((t : ℕ) → t < w * 64 → member (now (dst .exit)) t ≡ (member (now (dst .entry)) t && any 16 (λ m. hasMode a m && meets w (now (lw .entry)) m (member (now (u .entry))) t))) ⌝ }
 {
-    if !has_mode(a, m) {
-        return false;
+    wordset::copy(v, dst, w);
+    let mut rest = a;
+    while rest != 0 {
+        let m = u64::trailing_zeros(rest) as usize;
+        drop_linked(v, u, lw, w, m);
+        rest = rest & (rest - 1);
     }
-    let b = (t * 16 + m) * w;
-    wordset::intersects(&lw[b..], u, w)
+    wordset::subtract(dst, v, w);
 }
 
-// Whether u has a type that t is linked to by one of the modes a.
-fn steps(
-    ms: &[u64],
-    ln: &[u8],
-    w: usize,
-    tw: &[u64],
-    lw: &[u64],
-    a: u64,
-    t: usize,
-    u: &[u64],
-) -> bool
-    requires { ⌜ Ready (now ms) (now ln) w (now tw) (now lw) ⌝ }
-    requires { ⌜ (t < w * 64) × (w ≤ length (now u)) ⌝ }
-    ensures { λ r. ⌜ r ≡ L.any (Linked (now (ms .entry)) (now (ln .entry)) a t) (listOf w (now (u .entry))) ⌝ }
-{
-    let mut m = 0;
-    while m < 16 {
-        if steps_by(ms, ln, w, tw, lw, a, m, t, u) {
-            return true;
-        }
-        m += 1;
-    }
-    false
-}
-
-// Whether member i, if it is EX over one of the modes a and true in t, has its next in u.
-fn follows(
+// Those of dst stay in which member i, if it is EX over one of the modes a and true there, has its next in u. The first w words of v are
+// overwritten.
+fn follow(
     ms: &[u64],
     ln: &[u8],
     w: usize,
@@ -99,89 +138,52 @@ fn follows(
     lw: &[u64],
     i: usize,
     a: u64,
-    t: usize,
     u: &[u64],
-) -> bool
+    dst: &mut [u64],
+    v: &mut [u64],
+)
     requires { ⌜ Ready (now ms) (now ln) w (now tw) (now lw) ⌝ }
-    requires { ⌜ (i < length (now ms)) × (t < w * 64) × (w ≤ length (now u)) ⌝ }
-    ensures { λ r. ⌜ r ≡ Follows (now (ms .entry)) (now (ln .entry)) (listOf w (now (u .entry))) a t (form (now (ms .entry)) i) ⌝ }
+    requires { ⌜ (i < length (now ms)) × (w ≤ length (now u)) × (w ≤ length (now dst)) × (w ≤ length (now v)) ⌝ }
+    ensures { λ _. ⌜ ((t : ℕ) → t < w * 64 → member (now (dst .exit)) t ≡ (member (now (dst .entry)) t && Follows (now (ms .entry)) (now (ln .entry)) (listOf w (now (u .entry))) a t (form (now (ms .entry)) i))) ⌝ }
 {
     let x = ms[i];
     if tag(x) != 6 {
-        return true;
+        return;
     }
     let m = mode_of(arg(x));
     if m >= 16 {
-        return true;
+        return;
     }
     if !has_mode(a, m) {
-        return true;
+        return;
     }
-    if !bit_at(tw, w, i, t) {
-        return true;
-    }
-    meets(ms, ln, w, tw, lw, t, m, left(x), u)
+    confine_linked(dst, v, u, tw, lw, w, i, m, left(x));
 }
 
 // The same for every EX of the closure. Those over one mode are in the lean, and the others ask for nothing.
-fn all_follow(
+fn follow_all(
     ms: &[u64],
     ln: &[u8],
     w: usize,
     tw: &[u64],
     lw: &[u64],
     a: u64,
-    t: usize,
     u: &[u64],
-) -> bool
+    dst: &mut [u64],
+    v: &mut [u64],
+)
     requires { ⌜ Ready (now ms) (now ln) w (now tw) (now lw) ⌝ }
-    requires { ⌜ (t < w * 64) × (w ≤ length (now u)) ⌝ }
-    ensures { λ r. ⌜ r ≡ L.all (Follows (now (ms .entry)) (now (ln .entry)) (listOf w (now (u .entry))) a t) (forms (now (ms .entry))) ⌝ }
+    requires { ⌜ (w ≤ length (now u)) × (w ≤ length (now dst)) × (w ≤ length (now v)) ⌝ }
+    ensures { λ _. ⌜ ((t : ℕ) → t < w * 64 → member (now (dst .exit)) t ≡ (member (now (dst .entry)) t && L.all (Follows (now (ms .entry)) (now (ln .entry)) (listOf w (now (u .entry))) a t) (forms (now (ms .entry))))) ⌝ }
 {
     let mut k = 0;
     while k < ln.len() {
-        if !follows(ms, ln, w, tw, lw, ln[k] as usize, a, t, u) {
-            return false;
-        }
+        follow(ms, ln, w, tw, lw, ln[k] as usize, a, u, dst, v);
         k += 1;
     }
-    true
 }
 
-// Whether type t has what member i asks of it against the set u.
-fn passes_at(
-    ms: &[u64],
-    ln: &[u8],
-    w: usize,
-    tw: &[u64],
-    lw: &[u64],
-    i: usize,
-    t: usize,
-    u: &[u64],
-) -> bool
-    requires { ⌜ Ready (now ms) (now ln) w (now tw) (now lw) ⌝ }
-    requires { ⌜ (i < length (now ms)) × (t < w * 64) × (w ≤ length (now u)) ⌝ }
-    ensures { λ r. ⌜ r ≡ passes (now (ms .entry)) (now (ln .entry)) (listOf w (now (u .entry))) t (form (now (ms .entry)) i) ⌝ }
-{
-    let x = ms[i];
-    let g = tag(x);
-    if g == 6 {
-        let m = mode_of(arg(x));
-        if m >= 16 {
-            return true;
-        }
-        return meets(ms, ln, w, tw, lw, t, m, left(x), u);
-    }
-    if g == 8 {
-        return steps(ms, ln, w, tw, lw, arg(x), t, u);
-    }
-    if g == 9 {
-        return all_follow(ms, ln, w, tw, lw, arg(x), t, u);
-    }
-    true
-}
-
-// The first w words of v become those of `todo` that have what member i asks of them against u. Nothing is left in `todo`.
+// Those of `todo` stay that have what member i, an EU or an AU, asks of them against u. The first w words of v are overwritten.
 fn sift(
     ms: &[u64],
     ln: &[u8],
@@ -195,18 +197,15 @@ fn sift(
 )
     requires { ⌜ Ready (now ms) (now ln) w (now tw) (now lw) ⌝ }
     requires { ⌜ (i < length (now ms)) × (w ≤ length (now u)) × (w ≤ length (now todo)) × (w ≤ length (now v)) ⌝ }
-    ensures { λ _. ⌜ ((t : ℕ) → t < w * 64 → member (now (v .exit)) t ≡ (member (now (todo .entry)) t && passes (now (ms .entry)) (now (ln .entry)) (listOf w (now (u .entry))) t (form (now (ms .entry)) i))) ⌝ }
+    requires { ⌜ (8 ≤ tagAt (now ms) i) × (tagAt (now ms) i ≤ 9) ⌝ }
+    ensures { λ _. ⌜ ((t : ℕ) → t < w * 64 → member (now (todo .exit)) t ≡ (member (now (todo .entry)) t && passes (now (ms .entry)) (now (ln .entry)) (listOf w (now (u .entry))) t (form (now (ms .entry)) i))) ⌝ }
 {
-    wordset::clear(v, w);
-    let n = w * 64;
-    loop {
-        let t = wordset::first(todo, w);
-        if t == n {
-            return;
-        }
-        wordset::remove(todo, t);
-        wordset::insert_if(v, t, passes_at(ms, ln, w, tw, lw, i, t, u));
+    let x = ms[i];
+    if tag(x) == 8 {
+        step(todo, v, u, lw, w, arg(x));
+        return;
     }
+    follow_all(ms, ln, w, tw, lw, arg(x), u, todo, v);
 }
 
 // The first w words of dst become the types of src that are in block i.
@@ -235,8 +234,24 @@ fn confine(dst: &mut [u64], u: &[u64], tw: &[u64], w: usize, i: usize)
     }
 }
 
+// Whether u has all types of dst that are in block i.
+fn covers(u: &[u64], dst: &[u64], tw: &[u64], w: usize, i: usize) -> bool
+    requires { ⌜ (w ≤ length (now u)) × (w ≤ length (now dst)) × (i * w + w ≤ length (now tw)) ⌝ }
+    ensures { λ r. ⌜ r ≡ not (any (w * 64) (λ t. (member (now (dst .entry)) t && has w (now (tw .entry)) i t) && not (member (now (u .entry)) t))) ⌝ }
+{
+    let mut k = 0;
+    while k < w {
+        let at = i * w + k;
+        if (dst[k] & tw[at]) & !u[k] != 0 {
+            return false;
+        }
+        k += 1;
+    }
+    true
+}
+
 // From the types of src with the right operand of member i, an EU or an AU, u grows by those with the left operand that have what member i
-// asks of them against u, until none is added.
+// asks of them against u, until none is added, or until it has all types of dst in which member i is true.
 fn spread(
     ms: &[u64],
     ln: &[u8],
@@ -245,27 +260,31 @@ fn spread(
     lw: &[u64],
     i: usize,
     src: &[u64],
+    dst: &[u64],
     u: &mut [u64],
     todo: &mut [u64],
     v: &mut [u64],
 )
     requires { ⌜ Ready (now ms) (now ln) w (now tw) (now lw) ⌝ }
-    requires { ⌜ (i < length (now ms)) × (w ≤ length (now src)) × (w ≤ length (now u)) × (w ≤ length (now todo)) × (w ≤ length (now v)) ⌝ }
+    requires { ⌜ (i < length (now ms)) × (w ≤ length (now src)) × (w ≤ length (now dst)) × (w ≤ length (now u)) × (w ≤ length (now todo)) × (w ≤ length (now v)) ⌝ }
     requires { ⌜ (8 ≤ tagAt (now ms) i) × (tagAt (now ms) i ≤ 9) ⌝ }
-    ensures { λ _. ⌜ ((t : ℕ) → t < w * 64 → member (now (u .exit)) t ≡ elem t (Good (now (ms .entry)) (now (ln .entry)) (listOf w (now (src .entry))) (form (now (ms .entry)) i))) ⌝ }
+    ensures { λ _. ⌜ ((t : ℕ) → t < w * 64 → member (now (dst .entry)) t ≡ true → has w (now (tw .entry)) i t ≡ true → member (now (u .exit)) t ≡ elem t (Good (now (ms .entry)) (now (ln .entry)) (listOf w (now (src .entry))) (form (now (ms .entry)) i))) ⌝ }
 {
     let x = ms[i];
     let p = left(x);
     pick(u, src, tw, w, right(x));
     let n = w * 64;
     loop {
+        if covers(u, dst, tw, w, i) {
+            return;
+        }
         pick(todo, src, tw, w, p);
         wordset::subtract(todo, u, w);
         sift(ms, ln, w, tw, lw, i, u, todo, v);
-        if wordset::first(v, w) == n {
+        if wordset::first(todo, w) == n {
             return;
         }
-        wordset::unite(u, v, w);
+        wordset::unite(u, todo, w);
     }
 }
 
@@ -291,12 +310,11 @@ fn eliminate_member(
     let x = ms[i];
     let g = tag(x);
     if g == 6 {
-        if mode_of(arg(x)) >= 16 {
+        let m = mode_of(arg(x));
+        if m >= 16 {
             return;
         }
-        pick(todo, src, tw, w, i);
-        sift(ms, ln, w, tw, lw, i, src, todo, v);
-        confine(dst, v, tw, w, i);
+        confine_linked(dst, v, src, tw, lw, w, i, m, left(x));
         return;
     }
     if g < 8 {
@@ -305,7 +323,7 @@ fn eliminate_member(
     if g > 9 {
         return;
     }
-    spread(ms, ln, w, tw, lw, i, src, u, todo, v);
+    spread(ms, ln, w, tw, lw, i, src, dst, u, todo, v);
     confine(dst, u, tw, w, i);
 }
 

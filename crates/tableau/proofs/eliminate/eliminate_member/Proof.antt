@@ -2,9 +2,10 @@
 use mathlib.Core.Path.{sym, _∙_}
 use native.Mathlib.Omega.{arith}
 use borrow.Author.Needs.{needs}
-use Rattle.tableau.proofs.ListWords.{pick-member}
+use Rattle.tableau.proofs.MemberLaws.{left-is}
 use Rattle.tableau.proofs.BlockLaws.{block-fits}
-use Rattle.tableau.proofs.ModeLaws.{mode-single, mode-wide}
+use Rattle.tableau.proofs.ModeLaws.{mode-one, mode-single, mode-wide}
+use Rattle.tableau.proofs.Asks.{meets-next}
 use Rattle.tableau.proofs.Rounding.{kept-ex, kept-other, kept-until, kept-wide}
 use Rattle.tableau.proofs.eliminate.eliminate_member.Statement.{statement}
 use Rattle.tableau.proofs.eliminate.eliminate_member.Tie as tie
@@ -38,51 +39,39 @@ returns c =
     let b15 = b9 .before .before .before .before .before .before in
     kept-wide (b15 .pre .0) _ (b15 .pre .1 .0 .0) (b15 .args .src .now) _ (λ k l. b9 .slice-known .given k .fits) (b15 .pre .1 .1) _ (sym (b4 .tag .ensures) ∙ b3 .if1 .taken) (b2 .arg .ensures) (mode-wide (b1 .mode-of .ensures) (c .if2 .taken))
 
-pick-requires : tie.Need-pick-requires
-pick-requires c κs =
-    let b16 = c .before .before .before .before .before .before .before .before .before .before .before .before .before .before .before .before in
-    (b16 .pre .1 .0 .4, b16 .pre .1 .0 .1, block-fits _ _ _ _ (b16 .pre .1 .0 .0) (b16 .pre .0 .truths .room))
+left-requires : tie.Need-left-requires
+left-requires c κs = search needs
 
-sift-requires : tie.Need-sift-requires
-sift-requires c κs =
-    let b4 = c .before .before .before .before in
-    let b21 = b4 .before .before .before .before .before .before .before .before .before .before .before .before .before .before .before .before .before in
-    (b21 .pre .0, (b21 .pre .1 .0 .0, b21 .pre .1 .0 .1, (let k = b4 .pick .kept .0 in let h = b21 .pre .1 .0 .4 in omega arith), b21 .pre .1 .0 .5))
-
-confine-requires : tie.Need-confine-requires
-confine-requires c κs =
-    let b6 = c .before .before .before .before .before .before in
-    let b28 = b6 .before .before .before .before .before .before .before .before .before .before .before .before .before .before .before .before .before .before .before .before .before .before in
-    (b28 .pre .1 .0 .2, (let k = b6 .sift .kept .1 .1 .1 .1 .1 .1 .1 .1 .0 in let h = b28 .pre .1 .0 .5 in omega arith), block-fits _ _ _ _ (b28 .pre .1 .0 .0) (b28 .pre .0 .truths .room))
+confine-linked-requires : tie.Need-confine-linked-requires
+confine-linked-requires c κs =
+    let b3 = c .before .before .before in
+    let b6 = b3 .before .before .before in
+    let b7 = b6 .before in
+    let b18 = b7 .before .before .before .before .before .before .before .before .before .before .before in
+    ((b18 .pre .0 .rows .room, b18 .pre .0 .small, b3 .if2 .left, block-fits _ _ _ _ (b18 .pre .1 .0 .0) (b18 .pre .0 .truths .room), block-fits _ _ _ _ (left-is (b18 .pre .0 .table) _ (b18 .pre .1 .0 .0) (let g = b7 .tag .ensures in let e = b6 .if1 .taken in omega arith) (c .left .ensures)) (b18 .pre .0 .truths .room)), (b18 .pre .1 .0 .2, b18 .pre .1 .0 .5, b18 .pre .1 .0 .1))
 
 same-length : tie.Need-same-length
 same-length c =
-    let b2 = c .before .before in
-    b2 .confine .kept .0
+    let b4 = c .before .before .before .before in
+    b4 .confine-linked .kept .0
 
 same-length-2 : tie.Need-same-length-2
 same-length-2 c =
-    let b9 = c .before .before .before .before .before .before .before .before .before in
-    let b14 = b9 .before .before .before .before .before in
-    b9 .sift .kept .1 .1 .1 .1 .1 .1 .1 .0 ∙ b14 .pick .kept .0
-
-same-length-3 : tie.Need-same-length-3
-same-length-3 c =
-    let b9 = c .before .before .before .before .before .before .before .before .before in
-    b9 .sift .kept .1 .1 .1 .1 .1 .1 .1 .1 .0
+    let b4 = c .before .before .before .before in
+    b4 .confine-linked .kept .1 .0
 
 returns-2 : tie.Need-returns-2
 returns-2 c =
-    let b2 = c .before .before in
-    let b9 = b2 .before .before .before .before .before .before .before in
-    let b14 = b9 .before .before .before .before .before in
-    let b16 = b14 .before .before in
-    let b17 = b16 .before in
-    let b18 = b17 .before in
-    let b19 = b18 .before in
-    let b20 = b19 .before in
-    let b31 = b20 .before .before .before .before .before .before .before .before .before .before .before in
-    kept-ex (b31 .pre .0) _ (b31 .pre .1 .0 .0) (b31 .args .src .now) _ _ _ (b2 .confine .ensures) _ _ (b31 .pre .1 .1) (sym (b20 .tag .ensures) ∙ b19 .if1 .taken) (b18 .arg .ensures) (mode-single (b17 .mode-of .ensures) (b16 .if2 .left)) (pick-member _ _ _ _ _ _ (b31 .pre .1 .0 .4) (b14 .pick .ensures)) (b9 .sift .ensures)
+    let b4 = c .before .before .before .before in
+    let b5 = b4 .before in
+    let b8 = b5 .before .before .before in
+    let b9 = b8 .before in
+    let b10 = b9 .before in
+    let b11 = b10 .before in
+    let b12 = b11 .before in
+    let b23 = b12 .before .before .before .before .before .before .before .before .before .before .before in
+    kept-ex (b23 .pre .0) _ (b23 .pre .1 .0 .0) (b23 .args .src .now) _ _ _ (b4 .confine-linked .ensures) _ _ (b23 .pre .1 .1) (sym (b12 .tag .ensures) ∙ b11 .if1 .taken) (b10 .arg .ensures) (mode-single (b9 .mode-of .ensures) (b8 .if2 .left)) (b5 .left .ensures)
+    (λ t l. meets-next (b23 .pre .0) _ t _ _ _ l (b8 .if2 .left) (left-is (b23 .pre .0 .table) _ (b23 .pre .1 .0 .0) (let g = b12 .tag .ensures in let e = b11 .if1 .taken in omega arith) (b5 .left .ensures)) (mode-one (b9 .mode-of .ensures) (b8 .if2 .left)))
 
 returns-3 : tie.Need-returns-3
 returns-3 c =
@@ -102,15 +91,18 @@ returns-4 c =
 
 spread-requires : tie.Need-spread-requires
 spread-requires c κs =
-    let b6 = c .before .before .before .before .before .before in
-    let b17 = b6 .before .before .before .before .before .before .before .before .before .before .before in
-    (b17 .pre .0, ((b17 .pre .1 .0 .0, b17 .pre .1 .0 .1, b17 .pre .1 .0 .3, b17 .pre .1 .0 .4, b17 .pre .1 .0 .5), (let e = b6 .tag .ensures in omega arith, let e = b6 .tag .ensures in omega arith)))
+    let b7 = c .before .before .before .before .before .before .before in
+    let b18 = b7 .before .before .before .before .before .before .before .before .before .before .before in
+    (b18 .pre .0, ((b18 .pre .1 .0 .0, b18 .pre .1 .0 .1, b18 .pre .1 .0 .2, b18 .pre .1 .0 .3, b18 .pre .1 .0 .4, b18 .pre .1 .0 .5), (let e = b7 .tag .ensures in omega arith, let e = b7 .tag .ensures in omega arith)))
 
-confine-requires-2 : tie.Need-confine-requires-2
-confine-requires-2 c κs =
+confine-requires : tie.Need-confine-requires
+confine-requires c κs =
     let b8 = c .before .before .before .before .before .before .before .before in
-    let b26 = b8 .before .before .before .before .before .before .before .before .before .before .before .before .before .before .before .before .before .before in
-    (b26 .pre .1 .0 .2, (let k = b8 .spread .kept .1 .1 .1 .1 .1 .1 .1 .0 in let h = b26 .pre .1 .0 .3 in omega arith), block-fits _ _ _ _ (b26 .pre .1 .0 .0) (b26 .pre .0 .truths .room))
+    let b27 = b8 .before .before .before .before .before .before .before .before .before .before .before .before .before .before .before .before .before .before .before in
+    (b27 .pre .1 .0 .2, (let k = b8 .spread .kept .1 .1 .1 .1 .1 .1 .1 .1 .0 in let h = b27 .pre .1 .0 .3 in omega arith), block-fits _ _ _ _ (b27 .pre .1 .0 .0) (b27 .pre .0 .truths .room))
+
+same-length-3 : tie.Need-same-length-3
+same-length-3 c = search needs
 
 same-length-4 : tie.Need-same-length-4
 same-length-4 c = search needs
@@ -121,15 +113,12 @@ same-length-5 c = search needs
 same-length-6 : tie.Need-same-length-6
 same-length-6 c = search needs
 
-same-length-7 : tie.Need-same-length-7
-same-length-7 c = search needs
-
 returns-5 : tie.Need-returns-5
 returns-5 c =
     let b2 = c .before .before in
     let b11 = b2 .before .before .before .before .before .before .before .before .before in
-    let b29 = b11 .before .before .before .before .before .before .before .before .before .before .before .before .before .before .before .before .before .before in
-    kept-until (b29 .pre .0) _ (b29 .pre .1 .0 .0) (b29 .args .src .now) _ _ _ (b2 .confine2 .ensures) (b11 .spread .ensures)
+    let b30 = b11 .before .before .before .before .before .before .before .before .before .before .before .before .before .before .before .before .before .before .before in
+    kept-until (b30 .pre .0) _ (b30 .pre .1 .0 .0) (b30 .args .src .now) _ _ _ (b2 .confine .ensures) (b11 .spread .ensures)
 
 pub eliminate-member-spec : {M : Type 1} → statement M
 eliminate-member-spec =
@@ -141,19 +130,17 @@ eliminate-member-spec =
     arg-requires
     mode-of-requires
     returns
-    pick-requires
-    sift-requires
-    confine-requires
+    left-requires
+    confine-linked-requires
     same-length
     same-length-2
-    same-length-3
     returns-2
     returns-3
     returns-4
     spread-requires
-    confine-requires-2
+    confine-requires
+    same-length-3
     same-length-4
     same-length-5
     same-length-6
-    same-length-7
     returns-5)

@@ -1,109 +1,82 @@
--- `sift` meets its contract: v holds those that pass, of the ones that are taken out of `todo`. Assumes nothing.
-use mathlib.Core.Path.{sym, _∙_}
-use Prim.Native.Nat.{_*_}
+-- `sift` meets its contract, a return for an EU and one for an AU. Assumes nothing.
+use mathlib.Core.Path.{refl, sym, ap, _∙_}
+use mathlib.Core.Bool.{_&&_}
 use native.Mathlib.Omega.{arith}
-use Rattle.wordset.specs.Below.{count}
+use borrow.Author.Needs.{needs}
 use Rattle.wordset.specs.Words.{member}
-use Rattle.tableau.specs.Tables.{form}
-use Rattle.tableau.specs.Families.{listOf, passes}
-use Rattle.tableau.proofs.Sifting.{Sifting, least-in, sift-end, sift-less, sift-next, sift-start}
+use Rattle.tableau.proofs.Asks.{pass-au, pass-eu, steps-is}
 use Rattle.tableau.proofs.eliminate.sift.Statement.{statement}
 use Rattle.tableau.proofs.eliminate.sift.Tie as tie
 
-abbrev Inv-loop : tie.InvT-loop
-Inv-loop ms ln w tw lw i u todo₀ v₀ n todo v = Sifting (λ j. passes ms ln (listOf w u) j (form ms i)) w todo₀ todo₀ v₀ todo v
+mul-x : tie.Need-mul-x
+mul-x c = search needs
 
-abbrev μ-loop : tie.MeasureT-loop
-μ-loop ms ln w tw lw i u todo₀ v₀ n todo v = count (w * 64) (member todo)
+shared-slice-read-x : tie.Need-shared-slice-read-x
+shared-slice-read-x c = search needs
 
-clear-requires : tie.Need-clear-requires Inv-loop μ-loop
-clear-requires c κs =
-    let b8 = c .before .before .before .before .before .before .before .before in
-    b8 .pre .1 .3
+tag-requires : tie.Need-tag-requires
+tag-requires c κs = search needs
 
-mul-n : tie.Need-mul-n Inv-loop μ-loop
-mul-n c =
-    let b11 = c .before .before .before .before .before .before .before .before .before .before .before in
-    omega (arith, b11 .pre .0 .small)
+arg-requires : tie.Need-arg-requires
+arg-requires c κs = search needs
 
-loop-holds : tie.Need-loop-holds Inv-loop μ-loop
-loop-holds c =
-    let b11 = c .before .before .before .before .before .before .before .before .before .before .before in
-    sift-start (b11 .args .v .now) (b11 .pre .1 .3) (c .before .before .clear .ensures)
-
-first-requires : tie.Need-first-requires Inv-loop μ-loop
-first-requires c κs =
+step-requires : tie.Need-step-requires
+step-requires c κs =
     let b13 = c .before .before .before .before .before .before .before .before .before .before .before .before .before in
-    (let l = c .before .loop .inv .long in let h = b13 .pre .1 .2 in omega arith, omega (arith, b13 .pre .0 .small))
+    ((b13 .pre .0 .rows .room, b13 .pre .0 .small, (let e = c .arg .ensures in omega arith)), (b13 .pre .1 .0 .2, b13 .pre .1 .0 .3, b13 .pre .1 .0 .1))
 
-same-length : tie.Need-same-length Inv-loop μ-loop
-same-length c = c .before .before .before .loop .inv .long
+same-length : tie.Need-same-length
+same-length c = search needs
 
-same-length-2 : tie.Need-same-length-2 Inv-loop μ-loop
-same-length-2 c =
-    let b6 = c .before .before .before .before .before .before in
-    c .before .before .before .loop .inv .long′ ∙ b6 .clear .kept .0
+same-length-2 : tie.Need-same-length-2
+same-length-2 c = search needs
 
-returns : tie.Need-returns Inv-loop μ-loop
-returns c = sift-end (c .before .before .before .loop .inv) (sym (c .if1 .taken) ∙ c .before .first .ensures)
-
-remove-requires : tie.Need-remove-requires Inv-loop μ-loop
-remove-requires c κs =
+returns : tie.Need-returns
+returns c =
     let b4 = c .before .before .before .before in
-    let b16 = b4 .before .before .before .before .before .before .before .before .before .before .before .before in
-    (let k = (least-in _ _ _ (c .before .before .first .ensures) (c .before .if1 .left)) .0 in let l = b4 .loop .inv .long in let h = b16 .pre .1 .2 in omega arith)
+    let b5 = b4 .before in
+    let b8 = b5 .before .before .before in
+    let b9 = b8 .before in
+    let b18 = b9 .before .before .before .before .before .before .before .before .before in
+    λ t l. b4 .step .ensures t l ∙ ap (λ x. member (b18 .args .todo .now) t && x) (pass-eu (b18 .pre .0) _ t _ (b18 .pre .1 .0 .0) _ _ (sym (b9 .tag .ensures) ∙ b8 .if1 .taken) (b5 .arg .ensures) (steps-is (b18 .pre .0) _ t _ l))
 
-passes-at-requires : tie.Need-passes-at-requires Inv-loop μ-loop
-passes-at-requires c κs =
-    let b5 = c .before .before .before .before .before in
-    let b6 = b5 .before in
-    let b20 = b6 .before .before .before .before .before .before .before .before .before .before .before .before .before .before in
-    (b20 .pre .0, (b20 .pre .1 .0, (least-in _ _ _ (b6 .first .ensures) (b5 .if1 .left)) .0, b20 .pre .1 .1))
+arg-requires-2 : tie.Need-arg-requires-2
+arg-requires-2 c κs = search needs
 
-insert-if-requires : tie.Need-insert-if-requires Inv-loop μ-loop
-insert-if-requires c κs =
-    let b6 = c .before .before .before .before .before .before in
-    let b7 = b6 .before in
-    let b9 = b7 .before .before in
-    let b12 = b9 .before .before .before in
-    let b21 = b12 .before .before .before .before .before .before .before .before .before in
-    (let k = (least-in _ _ _ (b7 .first .ensures) (b6 .if1 .left)) .0 in let l = b9 .loop .inv .long′ in let q = b12 .clear .kept .0 in let h = b21 .pre .1 .3 in omega arith)
+follow-all-requires : tie.Need-follow-all-requires
+follow-all-requires c κs =
+    let b13 = c .before .before .before .before .before .before .before .before .before .before .before .before .before in
+    (b13 .pre .0, (b13 .pre .1 .0 .1, b13 .pre .1 .0 .2, b13 .pre .1 .0 .3))
 
-loop-less : tie.Need-loop-less Inv-loop μ-loop
-loop-less c =
-    let b7 = c .before .before .before .before .before .before .before in
-    let b9 = b7 .before .before in
-    let b10 = b9 .before in
-    let b12 = b10 .before .before in
-    let b15 = b12 .before .before .before in
-    let b24 = b15 .before .before .before .before .before .before .before .before .before in
-    (let q = b15 .clear .kept .0 in sift-less (b12 .loop .inv) (b24 .pre .1 .2) (let h = b24 .pre .1 .3 in omega arith) _ ((least-in _ _ _ (b10 .first .ensures) (b9 .if1 .left)) .0) ((least-in _ _ _ (b10 .first .ensures) (b9 .if1 .left)) .1) _ (b7 .remove .ensures))
+same-length-3 : tie.Need-same-length-3
+same-length-3 c = search needs
 
-loop-again : tie.Need-loop-again Inv-loop μ-loop
-loop-again c =
-    let b7 = c .before .before .before .before .before .before .before in
-    let b9 = b7 .before .before in
-    let b10 = b9 .before in
-    let b12 = b10 .before .before in
-    let b15 = b12 .before .before .before in
-    let b24 = b15 .before .before .before .before .before .before .before .before .before in
-    (let q = b15 .clear .kept .0 in sift-next (b12 .loop .inv) (b24 .pre .1 .2) (let h = b24 .pre .1 .3 in omega arith) _ ((least-in _ _ _ (b10 .first .ensures) (b9 .if1 .left)) .0) ((least-in _ _ _ (b10 .first .ensures) (b9 .if1 .left)) .1) _ _ _ (c .before .before .before .passes-at .ensures) (b7 .remove .ensures) (c .before .before .insert-if .ensures))
+same-length-4 : tie.Need-same-length-4
+same-length-4 c = search needs
+
+returns-2 : tie.Need-returns-2
+returns-2 c =
+    let b4 = c .before .before .before .before in
+    let b7 = b4 .before .before .before in
+    let b8 = b7 .before in
+    let b9 = b8 .before in
+    let b18 = b9 .before .before .before .before .before .before .before .before .before in
+    λ t l. b4 .follow-all .ensures t l ∙ ap (λ x. member (b18 .args .todo .now) t && x) (pass-au (b18 .pre .0) _ t _ (b18 .pre .1 .0 .0) _ _ (let e = b9 .tag .ensures in let f = b8 .if1 .left in let g = b18 .pre .1 .1 .0 in let h = b18 .pre .1 .1 .1 in omega arith) (b7 .arg2 .ensures) refl)
 
 pub sift-spec : {M : Type 1} → statement M
 sift-spec =
     tie.close
     (tie.spec
-    Inv-loop
-    μ-loop
-    clear-requires
-    mul-n
-    loop-holds
-    first-requires
+    mul-x
+    shared-slice-read-x
+    tag-requires
+    arg-requires
+    step-requires
     same-length
     same-length-2
     returns
-    remove-requires
-    passes-at-requires
-    insert-if-requires
-    loop-less
-    loop-again)
+    arg-requires-2
+    follow-all-requires
+    same-length-3
+    same-length-4
+    returns-2)

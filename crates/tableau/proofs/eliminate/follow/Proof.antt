@@ -1,0 +1,119 @@
+-- `follow` meets its contract, a return for each reason why member i asks for nothing, and one for what it asks for. Assumes nothing.
+use mathlib.Core.Path.{sym, ap, _∙_}
+use mathlib.Core.Bool.{_&&_}
+use native.Mathlib.Omega.{arith}
+use borrow.Author.Needs.{needs}
+use borrow.Author.Tests.{not-true, not-false}
+use Rattle.ctl.specs.Modes.{single}
+use Rattle.wordset.specs.Words.{member}
+use Rattle.tableau.proofs.MemberLaws.{left-is}
+use Rattle.tableau.proofs.BlockLaws.{block-fits}
+use Rattle.tableau.proofs.TruthLaws.{truth-bit}
+use Rattle.tableau.proofs.ModeLaws.{mode-one, mode-wide}
+use Rattle.tableau.proofs.Asks.{follow-mode, follow-next, follow-none, follow-wide, meets-next}
+use Rattle.tableau.proofs.Stepping.{idle, linked-member}
+use Rattle.tableau.proofs.eliminate.follow.Statement.{statement}
+use Rattle.tableau.proofs.eliminate.follow.Tie as tie
+
+mul-x : tie.Need-mul-x
+mul-x c = search needs
+
+shared-slice-read-x : tie.Need-shared-slice-read-x
+shared-slice-read-x c = search needs
+
+tag-requires : tie.Need-tag-requires
+tag-requires c κs = search needs
+
+returns : tie.Need-returns
+returns c =
+    let b1 = c .before in
+    let b10 = b1 .before .before .before .before .before .before .before .before .before in
+    λ t l. idle _ _ (follow-none (b10 .pre .0) _ _ t _ (b10 .pre .1 .0) (λ e. c .if1 .taken (b1 .tag .ensures ∙ e)))
+
+arg-requires : tie.Need-arg-requires
+arg-requires c κs = search needs
+
+mode-of-requires : tie.Need-mode-of-requires
+mode-of-requires c κs = search needs
+
+returns-2 : tie.Need-returns-2
+returns-2 c =
+    let b1 = c .before in
+    let b2 = b1 .before in
+    let b3 = b2 .before in
+    let b4 = b3 .before in
+    let b13 = b4 .before .before .before .before .before .before .before .before .before in
+    λ t l. idle _ _ (follow-wide (b13 .pre .0) _ _ t _ (b13 .pre .1 .0) (sym (b4 .tag .ensures) ∙ b3 .if1 .left) (λ q. mode-wide (b1 .mode-of .ensures) (c .if2 .taken) (ap single (b2 .arg .ensures) ∙ q)))
+
+has-mode-requires : tie.Need-has-mode-requires
+has-mode-requires c κs = search needs
+
+returns-3 : tie.Need-returns-3
+returns-3 c =
+    let b1 = c .before in
+    let b2 = b1 .before in
+    let b3 = b2 .before in
+    let b4 = b3 .before in
+    let b5 = b4 .before in
+    let b6 = b5 .before in
+    let b15 = b6 .before .before .before .before .before .before .before .before .before in
+    λ t l. idle _ _ (follow-mode (b15 .pre .0) _ _ t _ (b15 .pre .1 .0) (sym (b6 .tag .ensures) ∙ b5 .if1 .left) _ _ (b2 .if2 .left) (b4 .arg .ensures) (mode-one (b3 .mode-of .ensures) (b2 .if2 .left)) (sym (b1 .has-mode .ensures) ∙ not-true _ (c .if3 .taken)))
+
+left-requires : tie.Need-left-requires
+left-requires c κs = search needs
+
+confine-linked-requires : tie.Need-confine-linked-requires
+confine-linked-requires c κs =
+    let b5 = c .before .before .before .before .before in
+    let b8 = b5 .before .before .before in
+    let b9 = b8 .before in
+    let b18 = b9 .before .before .before .before .before .before .before .before .before in
+    ((b18 .pre .0 .rows .room, b18 .pre .0 .small, b5 .if2 .left, block-fits _ _ _ _ (b18 .pre .1 .0) (b18 .pre .0 .truths .room), block-fits _ _ _ _ (left-is (b18 .pre .0 .table) _ (b18 .pre .1 .0) (let g = b9 .tag .ensures in let e = b8 .if1 .left in omega arith) (c .left .ensures)) (b18 .pre .0 .truths .room)), (b18 .pre .1 .2, b18 .pre .1 .3, b18 .pre .1 .1))
+
+same-length : tie.Need-same-length
+same-length c =
+    let b4 = c .before .before .before .before in
+    b4 .confine-linked .kept .0
+
+same-length-2 : tie.Need-same-length-2
+same-length-2 c =
+    let b4 = c .before .before .before .before in
+    b4 .confine-linked .kept .1 .0
+
+returns-4 : tie.Need-returns-4
+returns-4 c =
+    let b4 = c .before .before .before .before in
+    let b5 = b4 .before in
+    let b8 = b5 .before .before .before in
+    let b9 = b8 .before in
+    let b10 = b9 .before in
+    let b11 = b10 .before in
+    let b12 = b11 .before in
+    let b13 = b12 .before in
+    let b14 = b13 .before in
+    let b23 = b14 .before .before .before .before .before .before .before .before .before in
+    (let one = mode-one (b11 .mode-of .ensures) (b10 .if2 .left) in
+    let here = linked-member _ _ _ _ _ _ (b23 .pre .1 .2) (b4 .confine-linked .ensures) in
+    λ t l. here t l
+    ∙ ap (λ x. member (b23 .args .dst .now) t && x) (follow-next (b23 .pre .0) _ _ t _ (b23 .pre .1 .0) (sym (b14 .tag .ensures) ∙ b13 .if1 .left) _ _ (b10 .if2 .left) (b12 .arg .ensures) one _ _ _ (sym (b9 .has-mode .ensures) ∙ not-false _ (b8 .if3 .left))
+    (truth-bit (b23 .pre .0 .truths) _ (b23 .pre .1 .0) t l) (b5 .left .ensures)
+    (meets-next (b23 .pre .0) _ t _ _ _ l (b10 .if2 .left) (left-is (b23 .pre .0 .table) _ (b23 .pre .1 .0) (let g = b14 .tag .ensures in let e = b13 .if1 .left in omega arith) (b5 .left .ensures)) one)))
+
+pub follow-spec : {M : Type 1} → statement M
+follow-spec =
+    tie.close
+    (tie.spec
+    mul-x
+    shared-slice-read-x
+    tag-requires
+    returns
+    arg-requires
+    mode-of-requires
+    returns-2
+    has-mode-requires
+    returns-3
+    left-requires
+    confine-linked-requires
+    same-length
+    same-length-2
+    returns-4)

@@ -1,0 +1,101 @@
+-- `step` meets its contract: v lacks those that are linked by a mode that was gone through. Assumes nothing.
+use mathlib.Core.Path.{_∙_}
+use native.Mathlib.Omega.{arith}
+use Rattle.wordset.specs.Words.{member}
+use Rattle.tableau.specs.Links.{meets}
+use Rattle.tableau.proofs.ListWords.{held}
+use Rattle.tableau.proofs.Sifting.{less-lt}
+use Rattle.tableau.proofs.Stepping.{Moded, mode-end, mode-low, mode-on, mode-start}
+use Rattle.tableau.proofs.eliminate.step.Statement.{statement}
+use Rattle.tableau.proofs.eliminate.step.Tie as tie
+
+abbrev Inv-loop : tie.InvT-loop
+Inv-loop dst v₀ u lw w a rest₀ v rest = Moded (λ j t. meets w lw j (member u) t) w a dst v₀ v rest
+
+abbrev μ-loop : tie.MeasureT-loop
+μ-loop dst v₀ u lw w a rest₀ v rest = rest
+
+copy-requires : tie.Need-copy-requires Inv-loop μ-loop
+copy-requires c κs =
+    let b6 = c .before .before .before .before .before .before in
+    (b6 .pre .1 .1, b6 .pre .1 .0)
+
+loop-holds : tie.Need-loop-holds Inv-loop μ-loop
+loop-holds c =
+    let b2 = c .before .before in
+    let b9 = b2 .before .before .before .before .before .before .before in
+    mode-start (b9 .pre .0 .2) (held (member (b9 .args .dst .now)) (b9 .args .v .now) _ _ (b9 .pre .1 .1) (b2 .copy .ensures))
+
+cast-m : tie.Need-cast-m Inv-loop μ-loop
+cast-m c =
+    let b1 = c .before in
+    omega (arith, mode-low (b1 .loop .inv) (c .loop-test .taken))
+
+drop-linked-requires : tie.Need-drop-linked-requires Inv-loop μ-loop
+drop-linked-requires c κs =
+    let b1 = c .before in
+    let b2 = b1 .before in
+    let b5 = b2 .before .before .before in
+    let b12 = b5 .before .before .before .before .before .before .before in
+    (b12 .pre .0 .0, b12 .pre .0 .1, mode-low (b2 .loop .inv) (b1 .loop-test .taken), (let l = b2 .loop .inv .long in let k = b5 .copy .kept .0 in let h = b12 .pre .1 .1 in omega arith), b12 .pre .1 .2)
+
+sub-rest : tie.Need-sub-rest Inv-loop μ-loop
+sub-rest c =
+    let b4 = c .before .before .before .before in
+    (let n = b4 .loop-test .taken in omega arith)
+
+loop-less : tie.Need-loop-less Inv-loop μ-loop
+loop-less c =
+    let b4 = c .before .before .before .before in
+    less-lt _ (b4 .loop-test .taken)
+
+loop-again : tie.Need-loop-again Inv-loop μ-loop
+loop-again c =
+    let b2 = c .before .before in
+    let b4 = b2 .before .before in
+    let b5 = b4 .before in
+    mode-on (b5 .loop .inv) (b4 .loop-test .taken) _ (b2 .drop-linked .kept .0) (b2 .drop-linked .ensures)
+
+subtract-requires : tie.Need-subtract-requires Inv-loop μ-loop
+subtract-requires c κs =
+    let b3 = c .before .before .before in
+    let b6 = b3 .before .before .before in
+    let b13 = b6 .before .before .before .before .before .before .before in
+    (b13 .pre .1 .0, (let l = b3 .loop .inv .long in let k = b6 .copy .kept .0 in let h = b13 .pre .1 .1 in omega arith))
+
+same-length : tie.Need-same-length Inv-loop μ-loop
+same-length c =
+    let b2 = c .before .before in
+    b2 .subtract .kept .0
+
+same-length-2 : tie.Need-same-length-2 Inv-loop μ-loop
+same-length-2 c =
+    let b6 = c .before .before .before .before .before .before in
+    let b9 = b6 .before .before .before in
+    b6 .loop .inv .long ∙ b9 .copy .kept .0
+
+returns : tie.Need-returns Inv-loop μ-loop
+returns c =
+    let b2 = c .before .before in
+    let b5 = b2 .before .before .before in
+    let b6 = b5 .before in
+    let b16 = b6 .before .before .before .before .before .before .before .before .before .before in
+    mode-end (b6 .loop .inv) (b5 .loop-test .left) _ (b16 .pre .1 .0) (b2 .subtract .ensures)
+
+pub step-spec : {M : Type 1} → statement M
+step-spec =
+    tie.close
+    (tie.spec
+    Inv-loop
+    μ-loop
+    copy-requires
+    loop-holds
+    cast-m
+    drop-linked-requires
+    sub-rest
+    loop-less
+    loop-again
+    subtract-requires
+    same-length
+    same-length-2
+    returns)
