@@ -1,0 +1,64 @@
+/* The public library for C and Rust: judges a sheet's bytes, one function for each operation. The functions are those of crates/lockgraph_c, whose contracts say
+ * for every argument what is returned and written; `rt staticlib lockgraph_c` proves them and writes target/staticlib/liblockgraph_c.a, for x86-64 Linux, which needs memcpy and
+ * memset of the C library alone. Rust declares the same prototypes in an `extern "C"` block, with `usize` for size_t.
+ *
+ * What a caller owes, which nothing tests:
+ * - a pointer and the length after it are one lent store of so many elements (bytes for uint8_t, words for uint64_t, numbers for uint16_t). A pointer is never NULL and
+ *   is aligned for its type, also where the length is 0;
+ * - `out` has as many words as its prototype says;
+ * - a store that is written, and `out`, overlaps no other argument. Two that are only read may overlap;
+ * - a stack with 1 MiB left; under half of it has been seen in use.
+ *
+ * What a caller gets:
+ * - the caller owns every store. No function keeps a pointer, allocates, or has a state: calls from several threads are free where they write to different stores;
+ * - the result is 0, or the number of the refusal below, the lowest that applies. After a refusal all words of `out` are 0 and every other store is as it was;
+ * - otherwise `out` and the stores are as described, and the elements that are not described are as they were.
+ *
+ * Every sheet:   1 length (empty, over 1,024 bytes, or a line over 200)   2 byte   3 layout   4 names   5 kinds   6 grammar   7 symbol   8 braces   9 closure   10 lean
+ * table, list:   11 naming (not below the number of namings)
+ * table, book, list:   12 store (too short)
+ * snapshot:   13 snapshot   14 entry   15 twice   16 row (too short)
+ *
+ * docs/SHEETS.md says how a sheet is written and what a verdict means; crates/ctl/specs/Tableau what types and namings are. A set of types is W words (1, 2 or 4): type j is bit j mod 64 of word j div 64. */
+#ifndef LOCKGRAPH_H
+#define LOCKGRAPH_H
+
+#include <stddef.h>
+#include <stdint.h>
+
+#ifdef __cplusplus
+extern "C" {
+#endif
+
+/* The surviving types under a naming. Each store has at least 4 words, and both begin with the W words afterwards.
+ * out, 5 words: W; how many types there are at the start; how many survive; after how many rounds; the store that was written last, 1 for first, 2 for second. */
+uint8_t lockgraph_table(const uint8_t *sheet, size_t sheet_len, uint64_t naming, uint64_t *first, size_t first_len, uint64_t *second, size_t second_len,
+                        uint64_t out[5]);
+
+/* The surviving types under every naming: those under naming r are the W words from word r * W of the store, which has W words or more for each naming.
+ * 16,384 words are always enough (at most 4,096 namings).
+ * out, 2 words: how many namings there are; W. */
+uint8_t lockgraph_book(const uint8_t *sheet, size_t sheet_len, uint64_t *store, size_t store_len, uint64_t out[2]);
+
+/* The surviving types under a naming as numbers at the beginning of the store, each a single time, in an order that is not promised. 256 numbers are always enough.
+ * out, 1 word: how many they are. */
+uint8_t lockgraph_list(const uint8_t *sheet, size_t sheet_len, uint64_t naming, uint16_t *store, size_t store_len, uint64_t out[1]);
+
+/* Whether the goal is open, or unsatisfiable: then no snapshot of any size that obeys the sheet has it at any node.
+ * out, 3 words: 1, the least naming under which a surviving type has the goal, and the least such type, where it is open; 0, 0, 0 where it is unsatisfiable. */
+uint8_t lockgraph_verdict(const uint8_t *sheet, size_t sheet_len, uint64_t out[3]);
+
+/* Where the goal's text lies in the sheet, without the newline after it.
+ * out, 2 words: the place of its first byte, from 0; how many bytes it has. */
+uint8_t lockgraph_goal(const uint8_t *sheet, size_t sheet_len, uint64_t out[2]);
+
+/* At which nodes of a snapshot, given as text, the goal and the globals hold: byte i of the row becomes 1 if the goal holds at node i + 1, plus 2 if all globals do.
+ * 16 bytes are always enough.
+ * out, 1 word: how many nodes the snapshot has. */
+uint8_t lockgraph_snapshot(const uint8_t *sheet, size_t sheet_len, const uint8_t *text, size_t text_len, uint8_t *row, size_t row_len, uint64_t out[1]);
+
+#ifdef __cplusplus
+}
+#endif
+
+#endif
