@@ -1,0 +1,256 @@
+//! Safe calls to the proved judge of lock graphs.
+//!
+//! A sheet is a text that asks one question about a lock drawing; docs/SHEETS.md says how it is written and what a verdict means.
+//! Each function here is one operation on a sheet's bytes. It calls the library whose contracts are proved (include/lockgraph.h) and
+//! adds nothing to its answers.
+//!
+//! - No function allocates or has a state, and calls from several threads are free.
+//! - Stores are lent: `&mut` slices of any length. After a refusal they are as they were; otherwise only the part that a function
+//!   describes has changed. The constants here are lengths that are always enough.
+//! - Each call needs a stack with 1 MiB left. A thread of the standard library has 2 MiB unless it asked for less.
+//!
+//! ```
+//! use lockgraph::{verdict, Verdict};
+//!
+//! let sheet = b"k f\nmark field\ngoal EX{f}k&EX{f}!k\n";
+//! assert_eq!(verdict(sheet), Ok(Verdict::Unsatisfiable));
+//! ```
+#![deny(missing_docs)]
+#![deny(unsafe_code)]
+#![warn(unsafe_op_in_unsafe_fn)]
+
+#[allow(unsafe_code)]
+mod raw;
+mod refusal;
+
+pub use refusal::Refusal;
+
+/// So many words each of [`table`]'s stores has at least.
+pub const TABLE_WORDS: usize = 4;
+
+/// So many words are always enough for [`book`].
+pub const BOOK_WORDS: usize = 16_384;
+
+/// So many numbers are always enough for [`list`].
+pub const LIST_NUMBERS: usize = 256;
+
+/// So many bytes are always enough for [`snapshot`].
+pub const ROW_BYTES: usize = 16;
+
+/// One of the two stores that are lent to [`table`].
+#[derive(Clone, Copy, Debug, PartialEq, Eq, Hash)]
+pub enum Store {
+    /// The first store.
+    First,
+    /// The second store.
+    Second,
+}
+
+/// What [`table`] gives.
+#[derive(Clone, Copy, Debug, PartialEq, Eq)]
+pub struct Table<'a> {
+    /// The surviving types: the beginning of the store that was written last. Type `j` is bit `j % 64` of word `j / 64`.
+    pub words: &'a [u64],
+    /// The store that `words` is a part of.
+    pub store: Store,
+    /// How many types there are at the start.
+    pub start: u64,
+    /// How many types survive.
+    pub left: u64,
+    /// After how many rounds.
+    pub rounds: u64,
+}
+
+/// What [`book`] gives.
+#[derive(Clone, Copy, Debug, PartialEq, Eq)]
+pub struct Book<'a> {
+    /// The surviving types under all namings, one naming after the other: the beginning of the store.
+    pub words: &'a [u64],
+    /// How many namings there are, 1 to 4,096.
+    pub namings: u64,
+    /// How many words each naming has: 1, 2 or 4.
+    pub words_each: usize,
+}
+
+impl<'a> Book<'a> {
+    /// The surviving types under a naming, or nothing if there is no such naming.
+    ///
+    /// ```
+    /// let sheet = b"v f\nname field\ngoal EX{f}v\n";
+    /// let mut store = [0; lockgraph::BOOK_WORDS];
+    /// let book = lockgraph::book(sheet, &mut store)?;
+    /// assert_eq!(book.under(1), Some(&book.words[1..2]));
+    /// assert_eq!(book.under(book.namings), None);
+    /// # Ok::<(), lockgraph::Refusal>(())
+    /// ```
+    pub fn under(&self, naming: u64) -> Option<&'a [u64]> {
+        let naming = usize::try_from(naming).ok()?;
+        self.words.chunks_exact(self.words_each).nth(naming)
+    }
+}
+
+/// What [`verdict`] gives.
+#[derive(Clone, Copy, Debug, PartialEq, Eq, Hash)]
+pub enum Verdict {
+    /// The elimination did not exclude the goal. This does not say that a snapshot has it.
+    Open {
+        /// The least naming under which a surviving type has the goal.
+        naming: u64,
+        /// The least such type.
+        type_number: u16,
+    },
+    /// No snapshot of any size that obeys the sheet has the goal at any node.
+    Unsatisfiable,
+}
+
+/// The surviving types under a naming.
+///
+/// Each store has at least [`TABLE_WORDS`] words. Afterwards both begin with the words that are handed back, and the words behind
+/// those are as they were.
+///
+/// ```
+/// use lockgraph::{table, Refusal, Store};
+///
+/// let sheet = b"c t p w h\nmark mark mark field field\nall p>AX{w}0\ngoal c&EX{w}EX{h}(t&EX{w}EX{h}p)\n";
+/// let (mut first, mut second) = ([7; 5], [7; 5]);
+/// let table = table(sheet, 0, &mut first, &mut second)?;
+/// assert_eq!((table.start, table.left, table.rounds), (192, 60, 3));
+/// assert_eq!(table.words.iter().map(|word| word.count_ones()).sum::<u32>(), 60);
+/// assert_eq!(table.store, Store::First);
+/// assert_eq!(first, second);
+/// assert_eq!(first[4], 7);
+///
+/// assert_eq!(lockgraph::table(sheet, 1, &mut first, &mut second), Err(Refusal::Naming));
+/// assert_eq!(lockgraph::table(sheet, 0, &mut first, &mut []), Err(Refusal::Store));
+/// # Ok::<(), Refusal>(())
+/// ```
+pub fn table<'a>(
+    sheet: &[u8],
+    naming: u64,
+    first: &'a mut [u64],
+    second: &'a mut [u64],
+) -> Result<Table<'a>, Refusal> {
+    let [words, start, left, rounds, last] = told(raw::table(sheet, naming, first, second))?;
+    let (store, written) = match last {
+        1 => (Store::First, first),
+        _ => (Store::Second, second),
+    };
+    Ok(Table {
+        words: &written[..words as usize],
+        store,
+        start,
+        left,
+        rounds,
+    })
+}
+
+/// The surviving types under every naming.
+///
+/// The store needs the words of all namings; [`BOOK_WORDS`] are always enough. The words behind those are as they were.
+///
+/// ```
+/// use lockgraph::{book, Refusal, BOOK_WORDS};
+///
+/// let sheet = b"v f\nname field\ngoal EX{f}v\n";
+/// let mut store = [7; BOOK_WORDS];
+/// let book = book(sheet, &mut store)?;
+/// assert_eq!((book.namings, book.words_each), (2, 1));
+/// assert_eq!(book.words.len(), 2);
+/// assert_eq!(store[2], 7);
+///
+/// assert_eq!(lockgraph::book(sheet, &mut store[..1]), Err(Refusal::Store));
+/// # Ok::<(), Refusal>(())
+/// ```
+pub fn book<'a>(sheet: &[u8], store: &'a mut [u64]) -> Result<Book<'a>, Refusal> {
+    let [namings, words] = told(raw::book(sheet, store))?;
+    Ok(Book {
+        words: &store[..(namings * words) as usize],
+        namings,
+        words_each: words as usize,
+    })
+}
+
+/// The surviving types under a naming as numbers, each a single time, in an order that is not promised.
+///
+/// They are the beginning of the store; [`LIST_NUMBERS`] numbers are always enough. The numbers behind those are as they were.
+///
+/// ```
+/// use lockgraph::{list, Refusal, LIST_NUMBERS};
+///
+/// let sheet = b"k\nmark\nall k\ngoal 1\n";
+/// let mut store = [7; LIST_NUMBERS];
+/// assert_eq!(list(sheet, 0, &mut store)?, [1]);
+/// assert_eq!(store[1], 7);
+///
+/// assert_eq!(list(sheet, 0, &mut []), Err(Refusal::Store));
+/// # Ok::<(), Refusal>(())
+/// ```
+pub fn list<'a>(sheet: &[u8], naming: u64, store: &'a mut [u16]) -> Result<&'a [u16], Refusal> {
+    let [left] = told(raw::list(sheet, naming, store))?;
+    Ok(&store[..left as usize])
+}
+
+/// Whether the goal is open or unsatisfiable.
+///
+/// ```
+/// use lockgraph::{verdict, Refusal, Verdict};
+///
+/// let sheet = b"c t p w h\nmark mark mark field field\nall p>AX{w}0\ngoal c&EX{w}EX{h}(t&EX{w}EX{h}p)\n";
+/// assert_eq!(verdict(sheet), Ok(Verdict::Open { naming: 0, type_number: 129 }));
+/// assert_eq!(verdict(b"k\nmark\ngoal k&!k\n"), Ok(Verdict::Unsatisfiable));
+/// assert_eq!(verdict(b""), Err(Refusal::Length));
+/// ```
+pub fn verdict(sheet: &[u8]) -> Result<Verdict, Refusal> {
+    let [open, naming, type_number] = told(raw::verdict(sheet))?;
+    Ok(match open {
+        1 => Verdict::Open {
+            naming,
+            type_number: type_number as u16,
+        },
+        _ => Verdict::Unsatisfiable,
+    })
+}
+
+/// The goal's text, the part of the sheet after `goal ` without its newline.
+///
+/// ```
+/// use lockgraph::{goal_text, Refusal};
+///
+/// assert_eq!(goal_text(b"k f\nmark field\ngoal EX{f} k\n"), Ok("EX{f} k"));
+/// assert_eq!(goal_text(b"k f\nmark field\ngoal EX{f}\n"), Err(Refusal::Grammar));
+/// ```
+pub fn goal_text(sheet: &[u8]) -> Result<&str, Refusal> {
+    let [place, length] = told(raw::goal(sheet))?;
+    let text = &sheet[place as usize..][..length as usize];
+    Ok(std::str::from_utf8(text).expect("a sheet that is not refused has printable bytes"))
+}
+
+/// At which nodes of a snapshot the goal and the globals hold.
+///
+/// Byte `i` of the row becomes 1 if the goal holds at node `i + 1`, plus 2 if all globals do. [`ROW_BYTES`] bytes are always enough.
+/// The bytes behind those of the nodes are as they were.
+///
+/// ```
+/// use lockgraph::{snapshot, Refusal, ROW_BYTES};
+///
+/// let sheet = b"k f\nmark field\nall k>AX{f}0\ngoal EX{f}k\n";
+/// let mut row = [7; ROW_BYTES];
+/// assert_eq!(snapshot(sheet, b"k f\n0 2\n1 1\n", &mut row)?, [3, 0]);
+/// assert_eq!(row[2], 7);
+///
+/// assert_eq!(snapshot(sheet, b"k f\n0 3\n1 1\n", &mut row), Err(Refusal::Entry));
+/// assert_eq!(snapshot(sheet, b"k f\n0 2\n1 1\n", &mut row[..1]), Err(Refusal::Row));
+/// # Ok::<(), Refusal>(())
+/// ```
+pub fn snapshot<'a>(sheet: &[u8], text: &[u8], row: &'a mut [u8]) -> Result<&'a [u8], Refusal> {
+    let [nodes] = told(raw::snapshot(sheet, text, row))?;
+    Ok(&row[..nodes as usize])
+}
+
+/// What the library told, or its refusal.
+fn told<const N: usize>((number, out): (u8, [u64; N])) -> Result<[u64; N], Refusal> {
+    match number {
+        0 => Ok(out),
+        _ => Err(Refusal::of_number(number).expect("the library's refusals are 1 to 16")),
+    }
+}

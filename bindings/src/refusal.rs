@@ -1,0 +1,140 @@
+//! The refusals, by the words of the document's table.
+
+use std::error::Error;
+use std::fmt;
+
+/// Why a call was refused: the lowest number that applies.
+///
+/// After a refusal every store is as it was before the call.
+///
+/// ```
+/// use lockgraph::{verdict, Refusal};
+///
+/// let refusal = verdict(b"k\nmerk\ngoal k\n").unwrap_err();
+/// assert_eq!(refusal, Refusal::Kinds);
+/// assert_eq!(refusal.number(), 5);
+/// assert!(refusal.to_string().starts_with("refused 5: "));
+/// ```
+#[derive(Clone, Copy, Debug, PartialEq, Eq, PartialOrd, Ord, Hash)]
+#[repr(u8)]
+pub enum Refusal {
+    /// The sheet is empty or over 1,024 bytes, or a line of it is over 200.
+    Length = 1,
+    /// The sheet has a byte that is neither printable nor a newline.
+    Byte = 2,
+    /// The sheet has no final newline, not 3 to 7 lines, or a line with a wrong beginning.
+    Layout = 3,
+    /// Line 1 is not 1 to 8 different lower-case letters with single spaces.
+    Names = 4,
+    /// Line 2 is not `mark`, `name` or `field` for each letter, or has more than 2 names.
+    Kinds = 5,
+    /// A formula does not parse.
+    Grammar = 6,
+    /// A letter that line 1 does not have, or one of the wrong kind for its place.
+    Symbol = 7,
+    /// Empty braces, or a field twice in them.
+    Braces = 8,
+    /// Over 64 formulas with all their parts and expansions.
+    Closure = 9,
+    /// Over 8 basic formulas.
+    Lean = 10,
+    /// The naming is not below the number of namings.
+    Naming = 11,
+    /// A store is too short.
+    Store = 12,
+    /// The snapshot's text is not line 1 and 1 to 16 lines of entries.
+    Snapshot = 13,
+    /// An entry of the snapshot is above 1, or that of a field above the number of nodes.
+    Entry = 14,
+    /// A name is on two nodes of the snapshot.
+    Twice = 15,
+    /// The row is too short.
+    Row = 16,
+}
+
+impl Refusal {
+    /// All refusals, in the order of their numbers.
+    ///
+    /// ```
+    /// use lockgraph::Refusal;
+    ///
+    /// let numbers: Vec<u8> = Refusal::ALL.iter().map(|refusal| refusal.number()).collect();
+    /// assert_eq!(numbers, (1..=16).collect::<Vec<u8>>());
+    /// ```
+    pub const ALL: [Refusal; 16] = [
+        Refusal::Length,
+        Refusal::Byte,
+        Refusal::Layout,
+        Refusal::Names,
+        Refusal::Kinds,
+        Refusal::Grammar,
+        Refusal::Symbol,
+        Refusal::Braces,
+        Refusal::Closure,
+        Refusal::Lean,
+        Refusal::Naming,
+        Refusal::Store,
+        Refusal::Snapshot,
+        Refusal::Entry,
+        Refusal::Twice,
+        Refusal::Row,
+    ];
+
+    /// The number in the document's table, 1 to 16.
+    ///
+    /// ```
+    /// assert_eq!(lockgraph::Refusal::Store.number(), 12);
+    /// ```
+    pub fn number(self) -> u8 {
+        self as u8
+    }
+
+    /// The refusal of a number, if there is one.
+    ///
+    /// ```
+    /// use lockgraph::Refusal;
+    ///
+    /// assert_eq!(Refusal::of_number(9), Some(Refusal::Closure));
+    /// assert_eq!(Refusal::of_number(0), None);
+    /// assert_eq!(Refusal::of_number(17), None);
+    /// ```
+    pub fn of_number(number: u8) -> Option<Refusal> {
+        let place = usize::from(number).checked_sub(1)?;
+        Refusal::ALL.get(place).copied()
+    }
+
+    fn reason(self) -> &'static str {
+        match self {
+            Refusal::Length => "the sheet is empty or over 1,024 bytes, or a line is over 200",
+            Refusal::Byte => "the sheet has a byte that is neither printable nor a newline",
+            Refusal::Layout => {
+                "the sheet's lines are not 3 to 7 with the right beginnings and a final newline"
+            }
+            Refusal::Names => {
+                "line 1 is not 1 to 8 different lower-case letters with single spaces"
+            }
+            Refusal::Kinds => {
+                "line 2 is not mark, name or field for each letter, with at most 2 names"
+            }
+            Refusal::Grammar => "a formula does not parse",
+            Refusal::Symbol => "a letter is not in line 1 or is of the wrong kind for its place",
+            Refusal::Braces => "braces are empty or have a field twice",
+            Refusal::Closure => "there are over 64 formulas with all parts and expansions",
+            Refusal::Lean => "there are over 8 basic formulas",
+            Refusal::Naming => "the naming is not below the number of namings",
+            Refusal::Store => "a store is too short",
+            Refusal::Snapshot => "the snapshot is not line 1 and 1 to 16 lines of entries",
+            Refusal::Entry => "an entry of the snapshot is above 1 or above the number of nodes",
+            Refusal::Twice => "a name is on two nodes of the snapshot",
+            Refusal::Row => "the row is too short",
+        }
+    }
+}
+
+impl fmt::Display for Refusal {
+    fn fmt(&self, f: &mut fmt::Formatter<'_>) -> fmt::Result {
+        write!(f, "refused {}: {}", self.number(), self.reason())
+    }
+}
+
+impl Error for Refusal {}

@@ -1,0 +1,217 @@
+//! The calls about one sheet, and how the two answers are compared.
+
+use super::second::Second;
+use super::seen::Seen;
+use super::sheets::Sheet;
+use super::stores::Stores;
+use lockgraph::Refusal;
+use second_checker::closure::accept;
+use second_checker::corpus::escape;
+use second_checker::generate::Chance;
+use std::fmt::Debug;
+
+/// Makes so many calls about a sheet and describes those that differ.
+pub fn ask(
+    c: &mut Chance,
+    sheet: &Sheet,
+    calls: u64,
+    twice: bool,
+    stores: &mut Stores,
+    seen: &mut Seen,
+) -> Vec<String> {
+    let lent = sheet.bytes.clone();
+    let read = accept(&sheet.bytes);
+    let (namings, words) = read
+        .as_ref()
+        .map_or((1, 1), |accepted| (accepted.namings(), accepted.words()));
+    let mut calls_about = Calls {
+        sheet: &lent,
+        second: Second::new(&sheet.bytes, &read, twice),
+        stores,
+        seen,
+        namings: some_namings(c, namings),
+        book: namings as usize * words,
+        pictures: (0..4).map(|_| sheet.picture(c)).collect(),
+    };
+    let mut faults: Vec<String> = (0..calls)
+        .filter_map(|number| calls_about.call(c, number))
+        .collect();
+    if lent != sheet.bytes {
+        faults.push(String::from("the sheet was written"));
+    }
+    let text = escape(&sheet.bytes);
+    faults
+        .into_iter()
+        .map(|fault| format!("sheet {text}\n{fault}"))
+        .collect()
+}
+
+/// The namings to ask for: few, so that what the second checker struck serves several calls. The last two do not exist.
+fn some_namings(c: &mut Chance, namings: u64) -> [u64; 8] {
+    let mut below = || c.word() % namings;
+    let some = [below(), below(), below()];
+    let above = namings + c.word() % (u64::MAX - namings);
+    [0, 0, namings - 1, some[0], some[1], some[2], namings, above]
+}
+
+/// A length at a limit or around it, more often enough than not.
+fn around(c: &mut Chance, limit: usize) -> usize {
+    match c.below(10) {
+        0 => 0,
+        1 | 2 => limit.saturating_sub(1),
+        3..=5 => limit,
+        6 | 7 => limit + 1,
+        _ => limit + c.below(20),
+    }
+}
+
+struct Calls<'a> {
+    sheet: &'a [u8],
+    second: Second<'a>,
+    stores: &'a mut Stores,
+    seen: &'a mut Seen,
+    namings: [u64; 8],
+    /// How many words a book needs.
+    book: usize,
+    pictures: Vec<Vec<u8>>,
+}
+
+impl Calls<'_> {
+    /// One call, and what differs. Verdict and goal have no other argument than the sheet, so they are asked once.
+    fn call(&mut self, c: &mut Chance, number: u64) -> Option<String> {
+        let naming = c.pick(&self.namings);
+        match (number, c.below(16)) {
+            (0, _) => self.verdict(),
+            (1, _) => self.goal_text(),
+            (_, 0..=4) => self.table(naming, around(c, 4), around(c, 4)),
+            (_, 5) => self.book(around(c, self.book)),
+            (_, 6..=10) => {
+                let left = self.second.left(naming);
+                self.list(naming, around(c, left))
+            }
+            _ => {
+                let text = c.pick(&self.pictures);
+                let nodes = self.second.nodes(&text);
+                self.snapshot(&text, around(c, nodes))
+            }
+        }
+    }
+
+    fn table(&mut self, naming: u64, first_len: usize, second_len: usize) -> Option<String> {
+        let expected = self.second.table(naming, first_len, second_len);
+        self.seen.count("table", &expected);
+        let first = self.stores.first.lend(first_len);
+        let second = self.stores.second.lend(second_len);
+        let starts = (first.as_ptr(), second.as_ptr());
+        let got = lockgraph::table(self.sheet, naming, first, second);
+        let promised = expected
+            .as_ref()
+            .map_or(Vec::new(), |table| table.words.clone());
+        unlike(&got, &expected, |got, table| same_table(got, table, starts))
+            .or_else(|| self.stores.first.fault(&promised))
+            .or_else(|| self.stores.second.fault(&promised))
+            .map(|fault| format!("table {naming} {first_len} {second_len}: {fault}"))
+    }
+
+    fn book(&mut self, length: usize) -> Option<String> {
+        let expected = self.second.book(length);
+        self.seen.count("book", &expected);
+        let got = lockgraph::book(self.sheet, self.stores.book.lend(length));
+        let promised = expected.clone().unwrap_or_default();
+        unlike(&got, &expected, |got, words| same_book(got, words))
+            .or_else(|| self.stores.book.fault(&promised))
+            .map(|fault| format!("book {length}: {fault}"))
+    }
+
+    /// The order of the numbers is not promised, so they are compared in ascending order. The second checker has each once.
+    fn list(&mut self, naming: u64, length: usize) -> Option<String> {
+        let expected = self.second.list(naming, length);
+        self.seen.count("list", &expected);
+        let got = lockgraph::list(self.sheet, naming, self.stores.list.lend(length));
+        let got = got.map(|numbers| numbers.to_vec());
+        let promised = got.clone().unwrap_or_default();
+        unlike(&got, &expected, |numbers, types| {
+            ascending(numbers) == *types
+        })
+        .or_else(|| self.stores.list.fault(&promised))
+        .map(|fault| format!("list {naming} {length}: {fault}"))
+    }
+
+    fn verdict(&mut self) -> Option<String> {
+        let expected = self.second.verdict();
+        self.seen.count("verdict", &expected);
+        let got = lockgraph::verdict(self.sheet);
+        unlike(&got, &expected, same_verdict).map(|fault| format!("verdict: {fault}"))
+    }
+
+    fn goal_text(&mut self) -> Option<String> {
+        let expected = self.second.goal_text();
+        self.seen.count("goal", &expected);
+        let got = lockgraph::goal_text(self.sheet);
+        unlike(&got, &expected, |got, text| got.as_bytes() == *text)
+            .map(|fault| format!("goal: {fault}"))
+    }
+
+    fn snapshot(&mut self, text: &[u8], length: usize) -> Option<String> {
+        let expected = self.second.snapshot(text, length);
+        self.seen.count("snapshot", &expected);
+        let got = lockgraph::snapshot(self.sheet, text, self.stores.row.lend(length));
+        let promised = expected.clone().unwrap_or_default();
+        unlike(&got, &expected, |got, row| got == row)
+            .or_else(|| self.stores.row.fault(&promised))
+            .map(|fault| format!("snapshot {length} {}: {fault}", escape(text)))
+    }
+}
+
+/// What differs between the library's outcome and the second checker's.
+fn unlike<G: Debug, E: Debug>(
+    got: &Result<G, Refusal>,
+    expected: &Result<E, u8>,
+    same: impl FnOnce(&G, &E) -> bool,
+) -> Option<String> {
+    let alike = match (got, expected) {
+        (Ok(got), Ok(expected)) => same(got, expected),
+        (Err(got), Err(expected)) => got.number() == *expected,
+        _ => false,
+    };
+    (!alike).then(|| format!("library {got:?}, second checker {expected:?}"))
+}
+
+/// The words are to be those at the beginning of the store that the second checker hands back.
+fn same_table(
+    got: &lockgraph::Table,
+    expected: &second_checker::Table,
+    (first, second): (*const u64, *const u64),
+) -> bool {
+    let (store, start) = match expected.handed_back {
+        second_checker::Store::First => (lockgraph::Store::First, first),
+        second_checker::Store::Second => (lockgraph::Store::Second, second),
+    };
+    got.words == expected.words
+        && got.words.as_ptr() == start
+        && got.store == store
+        && got.start == expected.start as u64
+        && got.left == expected.left as u64
+        && got.rounds == expected.rounds as u64
+}
+
+fn same_book(got: &lockgraph::Book, words: &[u64]) -> bool {
+    got.words == words && got.namings * got.words_each as u64 == words.len() as u64
+}
+
+fn same_verdict(got: &lockgraph::Verdict, expected: &second_checker::Verdict) -> bool {
+    use lockgraph::Verdict::{Open, Unsatisfiable};
+    *got == match *expected {
+        second_checker::Verdict::Open { naming, type_ } => Open {
+            naming,
+            type_number: type_,
+        },
+        second_checker::Verdict::Unsatisfiable => Unsatisfiable,
+    }
+}
+
+fn ascending(numbers: &[u16]) -> Vec<u16> {
+    let mut numbers = numbers.to_vec();
+    numbers.sort_unstable();
+    numbers
+}

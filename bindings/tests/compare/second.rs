@@ -1,0 +1,180 @@
+//! The second checker's answers about one sheet.
+//!
+//! Its operations read the sheet and strike anew at each call, which takes most of the time. Here the sheet is read once, and each naming
+//! is struck once, by the second checker's own functions; an answer is then put together from these. Where `twice` is set each answer is
+//! compared with that of its operation, called with the same arguments, and a difference stops everything: the memory would be wrong.
+
+use second_checker::closure::Accepted;
+use second_checker::tableau::{Striking, Tableau};
+use second_checker::{Refusal, Store, Table, Verdict};
+use std::collections::HashMap;
+use std::fmt::Debug;
+
+pub struct Second<'a> {
+    sheet: &'a [u8],
+    read: &'a Result<Accepted<'a>, Refusal>,
+    tableau: Option<Tableau<'a>>,
+    strikings: HashMap<u64, Striking>,
+    twice: bool,
+}
+
+impl<'a> Second<'a> {
+    pub fn new(
+        sheet: &'a [u8],
+        read: &'a Result<Accepted<'a>, Refusal>,
+        twice: bool,
+    ) -> Second<'a> {
+        Second {
+            sheet,
+            read,
+            tableau: None,
+            strikings: HashMap::new(),
+            twice,
+        }
+    }
+
+    pub fn table(&mut self, naming: u64, first: usize, second: usize) -> Result<Table, Refusal> {
+        let answer = self.remembered_table(naming, first.min(second));
+        self.confirmed(answer, |sheet| {
+            second_checker::table(sheet, naming, first, second)
+        })
+    }
+
+    pub fn book(&mut self, length: usize) -> Result<Vec<u64>, Refusal> {
+        let answer = self.remembered_book(length);
+        self.confirmed(answer, |sheet| second_checker::book(sheet, length))
+    }
+
+    pub fn list(&mut self, naming: u64, length: usize) -> Result<Vec<u16>, Refusal> {
+        let answer = self.remembered_list(naming, length);
+        self.confirmed(answer, |sheet| second_checker::list(sheet, naming, length))
+    }
+
+    pub fn verdict(&mut self) -> Result<Verdict, Refusal> {
+        let answer = self.remembered_verdict();
+        self.confirmed(answer, second_checker::verdict)
+    }
+
+    pub fn goal_text(&self) -> Result<&'a [u8], Refusal> {
+        let answer = self.accepted().map(|accepted| accepted.sheet.goal_text);
+        self.confirmed(answer, second_checker::goal_text)
+    }
+
+    pub fn snapshot(&self, text: &[u8], length: usize) -> Result<Vec<u8>, Refusal> {
+        let answer = self.remembered_snapshot(text, length);
+        self.confirmed(answer, |sheet| {
+            second_checker::snapshot(sheet, text, length)
+        })
+    }
+
+    /// How many types stand under a naming of the sheet; 0 where it has no such naming.
+    pub fn left(&mut self, naming: u64) -> usize {
+        self.striking(naming).map_or(0, |striking| striking.left())
+    }
+
+    /// How many nodes a snapshot has; 0 where it is refused.
+    pub fn nodes(&self, text: &[u8]) -> usize {
+        self.accepted()
+            .and_then(|accepted| second_checker::snapshot::read(text, &accepted.sheet))
+            .map_or(0, |snapshot| snapshot.nodes())
+    }
+
+    fn accepted(&self) -> Result<&'a Accepted<'a>, Refusal> {
+        self.read.as_ref().map_err(|&number| number)
+    }
+
+    fn confirmed<T: Debug + PartialEq>(
+        &self,
+        answer: Result<T, Refusal>,
+        ask: impl FnOnce(&'a [u8]) -> Result<T, Refusal>,
+    ) -> Result<T, Refusal> {
+        if self.twice {
+            assert_eq!(
+                answer,
+                ask(self.sheet),
+                "remembered, and asked of the second checker"
+            );
+        }
+        answer
+    }
+
+    /// The striking under a naming, or refusal 11.
+    fn striking(&mut self, naming: u64) -> Result<&Striking, Refusal> {
+        let accepted = self.accepted()?;
+        if naming >= accepted.namings() {
+            return Err(11);
+        }
+        let tableau = self.tableau.get_or_insert_with(|| Tableau::new(accepted));
+        Ok(self
+            .strikings
+            .entry(naming)
+            .or_insert_with(|| tableau.strike(naming)))
+    }
+
+    fn remembered_table(&mut self, naming: u64, shorter: usize) -> Result<Table, Refusal> {
+        let striking = self.striking(naming)?;
+        if shorter < 4 {
+            return Err(12);
+        }
+        Ok(Table {
+            words: striking.words(),
+            // The start is in the first store, and each round writes the other one, also the last, which is not counted.
+            handed_back: [Store::Second, Store::First][striking.rounds % 2],
+            start: striking.start,
+            left: striking.left(),
+            rounds: striking.rounds,
+        })
+    }
+
+    fn remembered_book(&mut self, length: usize) -> Result<Vec<u64>, Refusal> {
+        let accepted = self.accepted()?;
+        let namings = accepted.namings();
+        if length < namings as usize * accepted.words() {
+            return Err(12);
+        }
+        let mut words = Vec::new();
+        for naming in 0..namings {
+            words.extend(self.striking(naming)?.words());
+        }
+        Ok(words)
+    }
+
+    fn remembered_list(&mut self, naming: u64, length: usize) -> Result<Vec<u16>, Refusal> {
+        let types = self.striking(naming)?.standing_types();
+        if types.len() <= length {
+            Ok(types)
+        } else {
+            Err(12)
+        }
+    }
+
+    fn remembered_verdict(&mut self) -> Result<Verdict, Refusal> {
+        for naming in 0..self.accepted()?.namings() {
+            let striking = self.striking(naming)?.clone();
+            let tableau = self.tableau.as_ref().expect("made for the striking");
+            if let Some(type_) = tableau.least_goal_type(&striking) {
+                let type_ = type_ as u16;
+                return Ok(Verdict::Open { naming, type_ });
+            }
+        }
+        Ok(Verdict::Unsatisfiable)
+    }
+
+    fn remembered_snapshot(&self, text: &[u8], length: usize) -> Result<Vec<u8>, Refusal> {
+        let accepted = self.accepted()?;
+        let sheet = &accepted.sheet;
+        let snapshot = second_checker::snapshot::read(text, sheet)?;
+        if length < snapshot.nodes() {
+            return Err(16);
+        }
+        let goal = snapshot.holds(&accepted.written_goal, sheet);
+        let globals: Vec<Vec<bool>> = accepted
+            .written_globals
+            .iter()
+            .map(|global| snapshot.holds(global, sheet))
+            .collect();
+        let byte =
+            |node: usize| u8::from(goal[node]) + 2 * u8::from(globals.iter().all(|g| g[node]));
+        Ok((0..snapshot.nodes()).map(byte).collect())
+    }
+}

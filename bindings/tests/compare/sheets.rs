@@ -1,0 +1,155 @@
+//! Sheets and snapshots to ask about, from the second checker's generator.
+
+use second_checker::closure::accept;
+use second_checker::generate::{self, Chance, Draft};
+use second_checker::sheet::Kind;
+
+/// Above this a book or a verdict takes long; a few sheets have more.
+const NAMINGS: u64 = 64;
+
+/// A sheet's bytes, and letters and kinds for its snapshots.
+pub struct Sheet {
+    pub bytes: Vec<u8>,
+    pub letters: Vec<u8>,
+    pub kinds: Vec<Kind>,
+}
+
+impl Sheet {
+    fn of(draft: &Draft) -> Sheet {
+        Sheet {
+            bytes: draft.bytes(),
+            letters: draft.letters.clone(),
+            kinds: draft.kinds.clone(),
+        }
+    }
+
+    /// So of a refused sheet too.
+    fn has_at_most(&self, namings: u64) -> bool {
+        accept(&self.bytes).map_or(true, |accepted| accepted.namings() <= namings)
+    }
+
+    /// A snapshot's text, damaged one time in three.
+    pub fn picture(&self, c: &mut Chance) -> Vec<u8> {
+        if c.one_in(3) {
+            generate::damaged_picture(c, &self.letters, &self.kinds).0
+        } else {
+            generate::picture(c, &self.letters, &self.kinds).bytes()
+        }
+    }
+}
+
+/// A sheet that is not refused.
+pub fn sound(c: &mut Chance) -> Sheet {
+    match c.below(1024) {
+        0 => many_namings(c),
+        1..=384 => pressed(c),
+        _ => {
+            let size = c.between(2, 10);
+            Sheet::of(&generate::sound(c, size, NAMINGS))
+        }
+    }
+}
+
+/// A sheet with up to the most namings that there can be.
+fn many_namings(c: &mut Chance) -> Sheet {
+    loop {
+        let sheet = Sheet::of(&generate::sound(c, 6, 4096));
+        if !sheet.has_at_most(4 * NAMINGS - 1) {
+            return sheet;
+        }
+    }
+}
+
+/// A sheet with untils under globals that force or forbid steps: more is struck than in others.
+fn pressed(c: &mut Chance) -> Sheet {
+    const SHAPES: [(usize, usize, usize); 6] = [
+        (1, 0, 1),
+        (1, 0, 2),
+        (2, 0, 2),
+        (1, 1, 1),
+        (0, 2, 1),
+        (1, 1, 2),
+    ];
+    loop {
+        let sheet = Sheet::of(&generate::pressed(c, &SHAPES));
+        if accept(&sheet.bytes).is_ok() && sheet.has_at_most(NAMINGS) {
+            return sheet;
+        }
+    }
+}
+
+/// A sheet with something wrong, mostly.
+pub fn changed(c: &mut Chance) -> Sheet {
+    loop {
+        let sheet = match c.below(8) {
+            0..=2 => damaged(c),
+            3..=4 => byte_changed(c),
+            5 => odd(c),
+            _ => large(c),
+        };
+        if sheet.has_at_most(NAMINGS) {
+            return sheet;
+        }
+    }
+}
+
+/// One, two or three damages, the later numbers first as they need more of the sheet whole.
+fn damaged(c: &mut Chance) -> Sheet {
+    let mut draft = generate::sound(c, 4, NAMINGS);
+    let mut numbers: Vec<usize> = (0..c.between(1, 3)).map(|_| c.between(1, 10)).collect();
+    numbers.sort_unstable_by(|a, b| b.cmp(a));
+    numbers.dedup();
+    for number in numbers {
+        if draft.lines.len() >= 3 {
+            generate::damage(c, &mut draft, number);
+        }
+    }
+    Sheet::of(&draft)
+}
+
+/// One to three bytes put in, taken out, or replaced by others.
+fn byte_changed(c: &mut Chance) -> Sheet {
+    let size = c.between(2, 6);
+    let mut sheet = Sheet::of(&generate::sound(c, size, NAMINGS));
+    for _ in 0..c.between(1, 3) {
+        let from = c.below(sheet.bytes.len());
+        let to = from + c.below(2);
+        let put = some_bytes(c);
+        sheet.bytes.splice(from..to, put);
+    }
+    sheet
+}
+
+/// None, one of the sheet's alphabet, or one of all.
+fn some_bytes(c: &mut Chance) -> Vec<u8> {
+    match c.below(5) {
+        0 => vec![],
+        1 => vec![c.word() as u8],
+        _ => vec![c.pick(b"abfkvwAFKW01EXGUR(){},!&|> \n")],
+    }
+}
+
+/// A formula or a sheet at the border of the first refusals.
+fn odd(c: &mut Chance) -> Sheet {
+    let letters = b"kf".to_vec();
+    let kinds = vec![Kind::Mark, Kind::Field];
+    if c.one_in(3) {
+        let bytes = c.pick(generate::ODD_SHEETS).as_bytes().to_vec();
+        return Sheet {
+            bytes,
+            letters,
+            kinds,
+        };
+    }
+    let formulas: Vec<String> = (0..c.between(1, 3))
+        .map(|_| c.pick(generate::ODD_FORMULAS).to_string())
+        .collect();
+    let (goal, globals) = formulas.split_first().expect("one or more");
+    Sheet::of(&Draft::new(letters, kinds, globals.to_vec(), goal.clone()))
+}
+
+/// Formulas of any size: around and over the borders of closure, lean and length.
+fn large(c: &mut Chance) -> Sheet {
+    let size = c.between(6, 24);
+    Sheet::of(&generate::draft(c, size))
+}

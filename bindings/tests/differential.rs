@@ -1,0 +1,19 @@
+//! The proved library and the second checker give the same outcomes and leave the same stores.
+//!
+//! Here each call is also asked of the second checker's own operation. `bench/fuzz` makes more calls, of any seed.
+
+mod compare;
+
+use compare::compare;
+
+const CALLS: u64 = 20_000;
+const SEED: u64 = 1;
+
+#[test]
+fn same_outcomes_and_stores() {
+    let done = compare(CALLS, SEED, 1);
+    let faults = done.faults.join("\n");
+    assert_eq!(done.differ, 0, "calls differ, the first of them:\n{faults}");
+    assert_eq!(done.seen.calls(), CALLS);
+    assert_eq!(done.seen.missing(), [], "outcomes that no call had");
+}
