@@ -1,0 +1,91 @@
+//! inside SHEET...: for each sheet, the shortest time of a verdict and of naming 0's table, in nanoseconds, in one process, so that
+//! the start of a process does not hide the work. A line for each sheet: `PATH verdict PROVED ALL ASKED table PROVED ALL ASKED`,
+//! where ALL is plain Rust that fills all link rows, as the proved library does, and ASKED plain Rust that fills those that are
+//! asked for. They are asked first for the verdict and for the tables of the first namings, and must agree.
+
+mod proved;
+
+use plain::Rows;
+use std::hint::black_box;
+use std::time::{Duration, Instant};
+
+/// A batch takes about this long, so that the clock's own time does not count.
+const BATCH: Duration = Duration::from_micros(200);
+const BATCHES: usize = 50;
+
+fn main() {
+    for path in std::env::args().skip(1) {
+        let sheet = std::fs::read(&path).expect("a sheet's path");
+        agree(&sheet, Rows::Asked);
+        agree(&sheet, Rows::All);
+        let verdict = race([
+            &|| consume(proved::verdict(black_box(&sheet))),
+            &|| consume(plain::verdict(black_box(&sheet), Rows::All)),
+            &|| consume(plain::verdict(black_box(&sheet), Rows::Asked)),
+        ]);
+        let table = race([
+            &|| consume(proved::table(black_box(&sheet), 0)),
+            &|| consume(plain::table(black_box(&sheet), 0, Rows::All)),
+            &|| consume(plain::table(black_box(&sheet), 0, Rows::Asked)),
+        ]);
+        let [a, b, c] = verdict;
+        let [d, e, f] = table;
+        println!("{path} verdict {a:.0} {b:.0} {c:.0} table {d:.0} {e:.0} {f:.0}");
+    }
+}
+
+/// Keeps an answer that nobody looks at.
+fn consume<T>(answer: T) {
+    black_box(answer);
+}
+
+/// The answers of both are the same, for the verdict and for the table of the first 64 namings.
+fn agree(sheet: &[u8], rows: Rows) {
+    let verdict = plain::verdict(sheet, rows).map(|verdict| match verdict {
+        plain::Verdict::Open { naming, least } => [1, naming, least as u64],
+        plain::Verdict::Unsatisfiable => [0, 0, 0],
+    });
+    assert_eq!(
+        proved::verdict(sheet),
+        verdict.map_err(|refusal| refusal as u8)
+    );
+    for naming in 0..64 {
+        let table = plain::table(sheet, naming, rows).map(|table| {
+            let counts = [table.start, table.left, table.rounds].map(u64::from);
+            (table.words, counts)
+        });
+        let proved = proved::table(sheet, naming)
+            .map(|(words, [_, start, left, rounds, _])| (words, [start, left, rounds]));
+        assert_eq!(proved, table.map_err(|refusal| refusal as u8));
+    }
+}
+
+/// The shortest time of each for one call, in nanoseconds, in turn.
+fn race(calls: [&dyn Fn(); 3]) -> [f64; 3] {
+    let turns = calls.map(turns);
+    let mut shortest = [f64::MAX; 3];
+    for _ in 0..BATCHES {
+        for i in 0..3 {
+            shortest[i] = shortest[i].min(batch(calls[i], turns[i]));
+        }
+    }
+    shortest
+}
+
+/// How many calls fill a batch.
+fn turns(call: &dyn Fn()) -> u32 {
+    let mut turns = 1;
+    while batch(call, turns) * f64::from(turns) < BATCH.as_nanos() as f64 {
+        turns *= 2;
+    }
+    turns
+}
+
+/// Nanoseconds for one call, over so many.
+fn batch(call: &dyn Fn(), turns: u32) -> f64 {
+    let begun = Instant::now();
+    for _ in 0..turns {
+        call();
+    }
+    begun.elapsed().as_nanos() as f64 / f64::from(turns)
+}

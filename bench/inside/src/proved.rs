@@ -1,0 +1,54 @@
+//! The proved library, by the prototypes of include/lockgraph.h.
+
+use std::os::raw::c_uchar;
+
+#[link(name = "lockgraph_c", kind = "static")]
+extern "C" {
+    fn lockgraph_verdict(sheet: *const u8, sheet_len: usize, out: *mut u64) -> c_uchar;
+    fn lockgraph_table(
+        sheet: *const u8,
+        sheet_len: usize,
+        naming: u64,
+        first: *mut u64,
+        first_len: usize,
+        second: *mut u64,
+        second_len: usize,
+        out: *mut u64,
+    ) -> c_uchar;
+}
+
+/// The refusal, or 1, naming and type; 0, 0, 0 where it is unsatisfiable.
+pub fn verdict(sheet: &[u8]) -> Result<[u64; 3], u8> {
+    let mut out = [0; 3];
+    // The sheet is one lent store, and `out` has the 3 words that the prototype says.
+    let refusal = unsafe { lockgraph_verdict(sheet.as_ptr(), sheet.len(), out.as_mut_ptr()) };
+    answer(refusal, out)
+}
+
+/// The refusal, or the standing types and the counts: words, start, left, rounds, store.
+pub fn table(sheet: &[u8], naming: u64) -> Result<([u64; 4], [u64; 5]), u8> {
+    let mut first = [0; 4];
+    let mut second = [0; 4];
+    let mut out = [0; 5];
+    // Two stores of 4 words that overlap nothing, and `out` with the 5 words that the prototype says.
+    let refusal = unsafe {
+        lockgraph_table(
+            sheet.as_ptr(),
+            sheet.len(),
+            naming,
+            first.as_mut_ptr(),
+            first.len(),
+            second.as_mut_ptr(),
+            second.len(),
+            out.as_mut_ptr(),
+        )
+    };
+    answer(refusal, (first, out))
+}
+
+fn answer<T>(refusal: u8, out: T) -> Result<T, u8> {
+    match refusal {
+        0 => Ok(out),
+        _ => Err(refusal),
+    }
+}

@@ -1,0 +1,72 @@
+//! A set of types as words: type j is bit j mod 64 of word j div 64. W is 1, 2 or 4.
+
+pub type Family<const W: usize> = [u64; W];
+
+pub const fn none<const W: usize>() -> Family<W> {
+    [0; W]
+}
+
+pub fn map<const W: usize>(a: &Family<W>, b: &Family<W>, f: impl Fn(u64, u64) -> u64) -> Family<W> {
+    std::array::from_fn(|k| f(a[k], b[k]))
+}
+
+pub fn and<const W: usize>(a: &Family<W>, b: &Family<W>) -> Family<W> {
+    map(a, b, |x, y| x & y)
+}
+
+pub fn or<const W: usize>(a: &Family<W>, b: &Family<W>) -> Family<W> {
+    map(a, b, |x, y| x | y)
+}
+
+pub fn less<const W: usize>(a: &Family<W>, b: &Family<W>) -> Family<W> {
+    map(a, b, |x, y| x & !y)
+}
+
+pub fn not<const W: usize>(a: &Family<W>) -> Family<W> {
+    a.map(|x| !x)
+}
+
+pub fn is_empty<const W: usize>(a: &Family<W>) -> bool {
+    a.iter().fold(0, |all, x| all | x) == 0
+}
+
+pub fn has<const W: usize>(a: &Family<W>, t: usize) -> bool {
+    a[t / 64] >> (t % 64) & 1 == 1
+}
+
+pub fn size<const W: usize>(a: &Family<W>) -> u32 {
+    a.iter().map(|x| x.count_ones()).sum()
+}
+
+pub fn first<const W: usize>(a: &Family<W>) -> Option<usize> {
+    let k = a.iter().position(|&x| x != 0)?;
+    Some(k * 64 + a[k].trailing_zeros() as usize)
+}
+
+/// The types that have a lean place.
+pub fn place<const W: usize>(place: usize) -> Family<W> {
+    const PATTERNS: [u64; 6] = [
+        0xAAAA_AAAA_AAAA_AAAA,
+        0xCCCC_CCCC_CCCC_CCCC,
+        0xF0F0_F0F0_F0F0_F0F0,
+        0xFF00_FF00_FF00_FF00,
+        0xFFFF_0000_FFFF_0000,
+        0xFFFF_FFFF_0000_0000,
+    ];
+    match PATTERNS.get(place) {
+        Some(&pattern) => [pattern; W],
+        None => std::array::from_fn(|k| ((k >> (place - 6) & 1) as u64).wrapping_neg()),
+    }
+}
+
+/// The types below 2 to the power of `width`.
+pub fn below<const W: usize>(width: usize) -> Family<W> {
+    match width {
+        0..=5 => {
+            let mut low = none();
+            low[0] = (1 << (1 << width)) - 1;
+            low
+        }
+        _ => [u64::MAX; W],
+    }
+}

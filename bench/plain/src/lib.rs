@@ -1,0 +1,147 @@
+//! Plain Rust of the judge's algorithm, to compare the proved judge with: families of types as words, the truth of all members once
+//! for each sheet, a row of links for each type and mode, and rounds over set bits. Nothing here is proved; it is tested against
+//! the second checker's outcomes.
+
+mod closure;
+mod family;
+mod formula;
+mod report;
+mod sheet;
+mod tableau;
+
+use closure::Member;
+use sheet::Kind;
+use tableau::Tableau;
+
+/// Why a sheet is refused, by document 01's numbers.
+#[derive(Clone, Copy, PartialEq, Eq, Debug)]
+pub enum Refusal {
+    Length = 1,
+    Byte,
+    Layout,
+    Names,
+    Kinds,
+    Grammar,
+    Symbol,
+    Braces,
+    Closure,
+    Lean,
+    Naming,
+}
+
+/// Which link rows are filled. The answers are the same.
+#[derive(Clone, Copy, PartialEq, Eq, Debug)]
+pub enum Rows {
+    /// Those that a round can ask for, by rules that are gathered once for each mode: what an engineer would write.
+    Asked,
+    /// All of them, every member asked for every word: what the proved code does, so the rest of a difference is the language's.
+    All,
+}
+
+#[derive(Clone, Copy, PartialEq, Eq, Debug)]
+pub enum Verdict {
+    Open { naming: u64, least: usize },
+    Unsatisfiable,
+}
+
+/// The standing types of one naming, in the first words, with the counts that the program prints.
+#[derive(Clone, Copy, PartialEq, Eq, Debug)]
+pub struct Table {
+    pub words: [u64; 4],
+    pub start: u32,
+    pub left: u32,
+    pub rounds: u32,
+}
+
+/// A sheet as read: its closure and formulas, and its lean, split into the places of names and of others.
+pub struct Reading {
+    members: Vec<Member>,
+    roots: Vec<u8>,
+    lean: Vec<u8>,
+    names: Vec<usize>,
+    others: Vec<usize>,
+}
+
+impl Reading {
+    fn namings(&self) -> u64 {
+        1 << (self.names.len() * self.others.len())
+    }
+}
+
+pub fn read(bytes: &[u8]) -> Result<Reading, Refusal> {
+    let sheet = sheet::split(bytes)?;
+    let formulas = formula::read(&sheet.formulas, &sheet.symbols)?;
+    let closure = closure::close(&formulas)?;
+    let members = closure.members;
+    let lean = closure::lean(&members, &sheet.symbols.letters)?;
+    let named = |&place: &usize| match members[usize::from(lean[place])] {
+        Member::Letter(letter) => sheet.symbols.kinds[usize::from(letter)] == Kind::Name,
+        _ => false,
+    };
+    let (names, others) = (0..lean.len()).partition(named);
+    Ok(Reading {
+        roots: closure.roots,
+        members,
+        lean,
+        names,
+        others,
+    })
+}
+
+/// The least naming under which a standing type has the goal, with the least such type.
+pub fn verdict(bytes: &[u8], rows: Rows) -> Result<Verdict, Refusal> {
+    let reading = read(bytes)?;
+    Ok(match reading.lean.len() {
+        0..=6 => judge::<1>(&reading, rows),
+        7 => judge::<2>(&reading, rows),
+        _ => judge::<4>(&reading, rows),
+    })
+}
+
+fn judge<const W: usize>(reading: &Reading, rows: Rows) -> Verdict {
+    let tableau = Tableau::<W>::new(reading, rows);
+    for naming in 0..reading.namings() {
+        let settled = tableau.settle(naming);
+        if let Some(least) = tableau.goal_type(&settled.standing) {
+            return Verdict::Open { naming, least };
+        }
+    }
+    Verdict::Unsatisfiable
+}
+
+/// The standing types under one naming.
+pub fn table(bytes: &[u8], naming: u64, rows: Rows) -> Result<Table, Refusal> {
+    let reading = read(bytes)?;
+    if naming >= reading.namings() {
+        return Err(Refusal::Naming);
+    }
+    Ok(match reading.lean.len() {
+        0..=6 => settled::<1>(&reading, naming, rows),
+        7 => settled::<2>(&reading, naming, rows),
+        _ => settled::<4>(&reading, naming, rows),
+    })
+}
+
+fn settled<const W: usize>(reading: &Reading, naming: u64, rows: Rows) -> Table {
+    let settled = Tableau::<W>::new(reading, rows).settle(naming);
+    let mut words = [0; 4];
+    words[..W].copy_from_slice(&settled.standing);
+    Table {
+        words,
+        start: settled.start,
+        left: family::size(&settled.standing),
+        rounds: settled.rounds,
+    }
+}
+
+/// What the program prints of a sheet.
+pub fn program(bytes: &[u8], rows: Rows) -> Vec<u8> {
+    match read(bytes) {
+        Err(refusal) => format!("refused {}\n", refusal as u8).into_bytes(),
+        Ok(reading) => match reading.lean.len() {
+            0..=6 => report::report::<1>(&reading, rows),
+            7 => report::report::<2>(&reading, rows),
+            _ => report::report::<4>(&reading, rows),
+        },
+    }
+}
