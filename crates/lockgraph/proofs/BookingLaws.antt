@@ -2,7 +2,7 @@
 use mathlib.Core.Path.{_≡_, refl, sym, ap, ap₂, _∙_}
 use mathlib.Core.Bool.{cond}
 use mathlib.Core.List.{List, _++_}
-use Prim.Native.Nat.{ℕ, zero, suc, _*_, _^_, _≤_, _<_}
+use Prim.Native.Nat.{ℕ, _*_, _^_, _≤_, _<_}
 use native.Mathlib.Omega.{arith}
 use native.Mathlib.Nat.{mul-le-mul}
 use lib.ListN.{length, drop}
@@ -18,19 +18,14 @@ use Rattle.frame.specs.declared.Setup.{Setup}
 use Rattle.lockgraph.specs.declared.books.BookAnswer.the-variants.{Done, Refused}
 use Rattle.lockgraph.specs.Outcomes.{BookIs, bookAnswer, bookRefusal, bookStore, namingsIn, storeRefusal, survivorsIn, wordsIn}
 use Rattle.lockgraph.proofs.Accepted.{few-namings, few-words, namings-are, not-refused, survivors-are, words-are}
-use Rattle.lockgraph.proofs.RefusalLaws.{else-first, else-next}
+use Rattle.lockgraph.proofs.RefusalLaws.{else-first, else-next, refused-case}
 
 -- a refusal leaves the store alone
 refused-by : (s : List ℕ) {k : ℕ} (d : List ℕ) → k ≡ bookRefusal s (length d) → (k ≡ 0 → ⊥) → BookIs s d (Refused k) d
-refused-by s {k} d e n = record { answer = answer k n ∙ ap (bookAnswer s) e; store-holds = store k n ∙ ap (λ q. bookStore s q d) e }
-  where
-    answer : (k : ℕ) → (k ≡ 0 → ⊥) → Refused k ≡ bookAnswer s k
-    answer zero n = absurd (n refl)
-    answer (suc k) n = refl
-
-    store : (k : ℕ) → (k ≡ 0 → ⊥) → d ≡ bookStore s k d
-    store zero n = absurd (n refl)
-    store (suc k) n = refl
+refused-by s {k} d e n = record {
+  answer = refused-case Refused (bookAnswer s) (λ q. refl) k n ∙ ap (bookAnswer s) e;
+  store-holds = refused-case (λ q. d) (λ q. bookStore s q d) (λ q. refl) k n ∙ ap (λ q. bookStore s q d) e;
+}
 
 module _ {s tw lw : List ℕ} {u : Setup} (x : SetUp s tw lw u) where
   pub book-refused : (d : List ℕ) → (u .refusal ≡ 0 → ⊥) → BookIs s d (Refused (u .refusal)) d

@@ -1,9 +1,9 @@
 -- The two halves of the product agree: where Snapshot says that all globals hold at all nodes and the goal at some, Verdict does not say unsatisfiable. Assumes nothing.
-use mathlib.Core.Path.{_≡_, sym, subst}
+use mathlib.Core.Path.{_≡_}
 use mathlib.Core.List.{List}
 use Prim.Native.Nat.{ℕ, _%_, _≤_, _<_}
 use native.Mathlib.Omega.{arith}
-use lib.ListN.{length, getD}
+use lib.ListN.{getD}
 use Rattle.ctl.specs.Snapshot.{ofLines}
 use Rattle.lockgraph.specs.declared.snapshots.SnapshotAnswer.{SnapshotAnswer}
 use Rattle.lockgraph.specs.declared.snapshots.SnapshotAnswer.the-variants.{Done}

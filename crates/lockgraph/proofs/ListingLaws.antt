@@ -14,15 +14,11 @@ use Rattle.listing.proofs.ListedLaws.{ascending-once, listed-front, listed-rest
 use Rattle.reader.specs.Reader.{refusalOf}
 use Rattle.lockgraph.specs.declared.lists.ListAnswer.the-variants.{Done, Refused}
 use Rattle.lockgraph.specs.Outcomes.{ListIs, listAnswer, listRefusal, namingRefusal, namingsIn, orElse, storeRefusal, survivorsIn}
-use Rattle.lockgraph.proofs.RefusalLaws.{else-first, else-next, else-none}
-
-answer-refused : (s : List ℕ) (r k : ℕ) → (k ≡ 0 → ⊥) → Refused k ≡ listAnswer s r k
-answer-refused s r zero n = absurd (n refl)
-answer-refused s r (suc k) n = refl
+use Rattle.lockgraph.proofs.RefusalLaws.{else-first, else-next, else-none, refused-case}
 
 -- a refusal leaves the store alone
 refused-by : {s : List ℕ} {r k : ℕ} (d : List ℕ) → k ≡ listRefusal s r (length d) → (k ≡ 0 → ⊥) → ListIs s r d (Refused k) d
-refused-by {s} {r} {k} d e n = record { answer = answer-refused s r k n ∙ ap (listAnswer s r) e; untouched = λ m. refl; listed = λ z. absurd (n (e ∙ z)); rest = λ z. refl }
+refused-by {s} {r} {k} d e n = record { answer = refused-case Refused (listAnswer s r) (λ q. refl) k n ∙ ap (listAnswer s r) e; untouched = λ m. refl; listed = λ z. absurd (n (e ∙ z)); rest = λ z. refl }
 
 -- List's number, from the sheet's and the naming's
 module _ (s : List ℕ) (r : ℕ) {k : ℕ} (e : k ≡ orElse (refusalOf s) (namingRefusal (namingsIn s) r)) where

@@ -25,6 +25,11 @@ pub else-none : (k l : ℕ) → orElse k l ≡ 0 → (k ≡ 0) × (l ≡ 0)
 else-none zero l e = (refl, e)
 else-none (suc k) l e = let i : suc k ≡ 0 = sym (else-first (suc k) l (λ h. omega arith)) ∙ e in absurd (omega arith)
 
+-- two answers or two stores that agree on every number but 0 agree on a refusal's
+pub refused-case : {A : Type 0} (f g : ℕ → A) → ((k : ℕ) → f (suc k) ≡ g (suc k)) → (k : ℕ) → (k ≡ 0 → ⊥) → f k ≡ g k
+refused-case f g h zero n = absurd (n refl)
+refused-case f g h (suc k) n = h k
+
 pub naming-none : (n r : ℕ) → namingRefusal n r ≡ 0 → r < n
 naming-none n r e = go (lt-or-le r n)
   where

@@ -1,11 +1,10 @@
 -- What Snapshot answers and leaves at each of its returns, and what that means. Assumes nothing.
 use mathlib.Core.Path.{_≡_, refl, sym, ap, ap₂, _∙_, subst}
-use mathlib.Core.Bool.{Bool, cond}
+use mathlib.Core.Bool.{cond}
 use mathlib.Core.Logic.{_↔_}
-use mathlib.Core.List.{List, [], _++_, map}
+use mathlib.Core.List.{List, _++_, map}
 use Prim.Native.Nat.{ℕ, zero, suc, _-_, _*_, _%_, _≤_, _<_}
 use native.Mathlib.Omega.{arith}
-use lib.Dec.{eqb, ltb}
 use lib.ListN.{length, getD, take, drop, replicate}
 use lib.Seq.{getD-take, length-take-le}
 use lib.ListN.{List·getD-append}
@@ -14,17 +13,17 @@ use Rattle.ctl.specs.Lists.{_∈_}
 use Rattle.ctl.specs.Meaning.{HoldsRaw}
 use Rattle.ctl.specs.Positive.{positive}
 use Rattle.ctl.specs.Raw.{Raw}
-use Rattle.ctl.specs.Snapshot.{NamesSingle, Snapshot, ofLines}
+use Rattle.ctl.specs.Snapshot.{NamesSingle, ofLines}
 use Rattle.evaluator.proofs.RowMeaning.{globals-bit, goal-bit, row-length}
 use Rattle.evaluator.specs.Rows.{rowOf}
 use Rattle.layout.proofs.HeadLaws.{line-first}
 use Rattle.layout.proofs.Letters.{sheet-letters}
-use Rattle.layout.specs.Layout.{kinds, letters, lineOf}
+use Rattle.layout.specs.Layout.{kinds, lineOf}
 use Rattle.layout.specs.Text.{endOf}
 use Rattle.sheet.proofs.RefusalLaws.{right-kinds, some-symbols}
 use Rattle.sheet.specs.Reading.{formulas, globalsOf, goalOf, isName}
 use Rattle.snapshot.proofs.AnsweredLaws.{answered, nodes-held}
-use Rattle.snapshot.specs.Answered.{Answered, Held, no-text, of-nodes, on-two, too-high}
+use Rattle.snapshot.specs.Answered.{Answered, no-text, of-nodes, on-two, too-high}
 use Rattle.snapshot.specs.Read.{Few, lineStore, readSnapshot}
 use Rattle.snapshot.specs.Store.{ofStore}
 use Rattle.snapshot.specs.Text.{Text}
@@ -40,8 +39,8 @@ use Rattle.frame.proofs.SetUpLaws.{count-within, formulas-five, right, says, ze
 use Rattle.lockgraph.specs.declared.snapshots.SnapshotAnswer.{SnapshotAnswer}
 use Rattle.lockgraph.specs.declared.snapshots.SnapshotAnswer.the-variants.{Done, Refused}
 use Rattle.lockgraph.specs.Demands.{RowMeans, SnapshotMeans}
-use Rattle.lockgraph.specs.Outcomes.{SnapshotIs, entriesIn, nodesOf, orElse, rowIn, rowRefusal, snapshotAnswer, snapshotRead, snapshotRefusal, snapshotRow}
-use Rattle.lockgraph.proofs.RefusalLaws.{else-first, else-next, else-none, store-none}
+use Rattle.lockgraph.specs.Outcomes.{SnapshotIs, entriesIn, nodesOf, rowIn, rowRefusal, snapshotAnswer, snapshotRead, snapshotRefusal, snapshotRow}
+use Rattle.lockgraph.proofs.RefusalLaws.{else-first, else-next, else-none, refused-case}
 
 pub whole : 128 ≤ 128
 whole = omega arith
@@ -68,15 +67,10 @@ refused-some (of-nodes n h) e i = let j : _≡_ {A = ℕ} 0 1 = cc in omega arit
 -- ---- a refusal leaves the row alone
 
 refused-by : {s t : List ℕ} {k : ℕ} (row : List ℕ) → k ≡ snapshotRefusal s t (length row) → (k ≡ 0 → ⊥) → SnapshotIs s t row (Refused k) row
-refused-by {s} {t} {k} row e n = record { answer = answer k n ∙ ap (snapshotAnswer s t) e; row-holds = kept k n ∙ ap (λ q. snapshotRow s t q row) e }
-  where
-    answer : (k : ℕ) → (k ≡ 0 → ⊥) → Refused k ≡ snapshotAnswer s t k
-    answer zero n = absurd (n refl)
-    answer (suc k) n = refl
-
-    kept : (k : ℕ) → (k ≡ 0 → ⊥) → row ≡ snapshotRow s t k row
-    kept zero n = absurd (n refl)
-    kept (suc k) n = refl
+refused-by {s} {t} {k} row e n = record {
+  answer = refused-case Refused (snapshotAnswer s t) (λ q. refl) k n ∙ ap (snapshotAnswer s t) e;
+  row-holds = refused-case (λ q. row) (λ q. snapshotRow s t q row) (λ q. refl) k n ∙ ap (λ q. snapshotRow s t q row) e;
+}
 
 -- ---- call by call
 

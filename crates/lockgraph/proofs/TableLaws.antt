@@ -2,7 +2,7 @@
 use mathlib.Core.Path.{_≡_, refl, sym, ap, _∙_}
 use mathlib.Core.Bool.{cond}
 use mathlib.Core.List.{List}
-use Prim.Native.Nat.{ℕ, zero, suc, _%_}
+use Prim.Native.Nat.{ℕ, _%_}
 use lib.ListN.{length, take}
 use borrow.Author.Tests.{eq-eqb, ne-eqb}
 use Rattle.ctl.specs.Tableau.{startTypes}
@@ -13,21 +13,14 @@ use Rattle.prepare.specs.Prepared.{tableauIn}
 use Rattle.lockgraph.specs.declared.tables.TableAnswer.{TableAnswer}
 use Rattle.lockgraph.specs.declared.tables.TableAnswer.the-variants.{Done, Refused}
 use Rattle.lockgraph.specs.Outcomes.{TableIs, holding, partOf, placeOf, tableAnswer, tableRefusal, tableStore, wordsIn}
+use Rattle.lockgraph.proofs.RefusalLaws.{refused-case}
 
 module _ (s : List ℕ) (r : ℕ) where
-  answer-refused : (k : ℕ) → (k ≡ 0 → ⊥) → Refused k ≡ tableAnswer s r k
-  answer-refused zero n = absurd (n refl)
-  answer-refused (suc k) n = refl
-
-  store-untouched : (k : ℕ) (d : List ℕ) → (k ≡ 0 → ⊥) → d ≡ tableStore s r k d
-  store-untouched zero d n = absurd (n refl)
-  store-untouched (suc k) d n = refl
-
   pub table-refused : {k : ℕ} (first second : List ℕ) → k ≡ tableRefusal s r (length first) (length second) → (k ≡ 0 → ⊥) → TableIs s r first second (Refused k) first second
   table-refused {k} first second e n = record {
-    answer = answer-refused k n ∙ ap (tableAnswer s r) e;
-    first-holds = store-untouched k first n ∙ ap (λ q. tableStore s r q first) e;
-    second-holds = store-untouched k second n ∙ ap (λ q. tableStore s r q second) e;
+    answer = refused-case Refused (tableAnswer s r) (λ q. refl) k n ∙ ap (tableAnswer s r) e;
+    first-holds = refused-case (λ q. first) (λ q. tableStore s r q first) (λ q. refl) k n ∙ ap (λ q. tableStore s r q first) e;
+    second-holds = refused-case (λ q. second) (λ q. tableStore s r q second) (λ q. refl) k n ∙ ap (λ q. tableStore s r q second) e;
   }
 
   pub table-done : (first second : List ℕ) {k w : ℕ} {first′ second′ : List ℕ} {c : Counts} → k ≡ tableRefusal s r (length first) (length second) → k ≡ 0 → w ≡ wordsIn s

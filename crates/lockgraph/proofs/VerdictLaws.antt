@@ -1,7 +1,7 @@
 -- What Verdict answers at each of its returns. Assumes nothing.
 use mathlib.Core.Path.{_≡_, refl, sym, ap, _∙_}
 use mathlib.Core.List.{List}
-use Prim.Native.Nat.{ℕ, zero, suc}
+use Prim.Native.Nat.{ℕ}
 use Rattle.ctl.specs.Positive.{positive}
 use Rattle.ctl.specs.Verdict as Ctl
 use Rattle.sheet.specs.Reading.{formulas, goalOf}
@@ -14,15 +14,12 @@ use Rattle.lockgraph.specs.declared.verdicts.VerdictAnswer.{VerdictAnswe
 use Rattle.lockgraph.specs.declared.verdicts.VerdictAnswer.the-variants.{Refused}
 use Rattle.lockgraph.specs.Outcomes.{verdictAnswer, verdictBy, verdictIn, verdictOf}
 use Rattle.lockgraph.proofs.Accepted.{not-refused}
-
-answer-refused : (s : List ℕ) (k : ℕ) → (k ≡ 0 → ⊥) → Refused k ≡ verdictAnswer s k
-answer-refused s zero n = absurd (n refl)
-answer-refused s (suc k) n = refl
+use Rattle.lockgraph.proofs.RefusalLaws.{refused-case}
 
 module _ {s tw lw : List ℕ} {u : Setup} (x : SetUp s tw lw u) where
   pub verdict-refused : (u .refusal ≡ 0 → ⊥) → Refused (u .refusal) ≡ verdictOf s
   unfolding verdictOf
-  verdict-refused n = answer-refused s (u .refusal) n ∙ ap (verdictAnswer s) (x .is)
+  verdict-refused n = refused-case Refused (verdictAnswer s) (λ q. refl) (u .refusal) n ∙ ap (verdictAnswer s) (x .is)
 
   pub verdict-judged : u .refusal ≡ 0 → (v : Verdict) {a : VerdictAnswer} → Ctl.verdict (tableauIn s) (positive (goalOf (formulas s))) ≡ Judged.verdictOf v → a ≡ verdictBy (Judged.verdictOf v) → a ≡ verdictOf s
   unfolding verdictOf verdictIn

@@ -1,5 +1,5 @@
 -- `snapshot` meets its contract. Assumes nothing.
-use mathlib.Core.Path.{refl, sym}
+use mathlib.Core.Path.{sym}
 use native.Mathlib.Omega.{arith}
 use denote.Struct.Field.{u64-field, u8-field, usize-field}
 use lib.Seq.{length-take-le}
@@ -8,12 +8,6 @@ use Rattle.lockgraph.proofs.SnapshotLaws.{fill-asked, kinds-few, last-f
 use borrow.Author.Needs.{needs, length-unmapped}
 use Rattle.lockgraph.proofs.snapshots.snapshot.Statement.{statement}
 use Rattle.lockgraph.proofs.snapshots.snapshot.Tie as tie
-use Rattle.lockgraph.proofs.snapshots.snapshot.Reads as reads
-use Rattle.lockgraph.proofs.snapshots.snapshot.Lts as lts
-use Rattle.evaluator.proofs.fill_row.Reads as fill-row-reads
-use Rattle.layout.proofs.end_of.Reads as end-of-reads
-use Rattle.reader.proofs.number.Reads as number-reads
-use Rattle.reader.proofs.read.Reads as read-reads
 use Rattle.snapshot.proofs.read.Reads as read-reads′
 
 read-requires : tie.Need-read-requires
