@@ -46,6 +46,9 @@ take-within zero xs e = omega arith
 take-within (suc n) [] e = absurd (omega arith)
 take-within (suc n) (x ∷ xs) e = let h = take-within n xs (omega arith) in omega arith
 
+pub still-few : {m n : ℕ} → m ≡ n → (0 < n) × (n ≤ 1024) → (0 < m) × (m ≤ 1024)
+still-few e h = let a = h .0 in let b = h .1 in (omega arith, omega arith)
+
 module _ {s tab′ : List ℕ} {h : Sheet} (x : SheetRead s tab′ h) where
   number-is : h .refusal ≡ readRefusal s
   number-is = x .is ∙ sheet-refusal s
@@ -56,7 +59,7 @@ module _ {s tab′ : List ℕ} {h : Sheet} (x : SheetRead s tab′ h) where
       let e = number-is in
       refused-is (omega arith) n (within-read most wide s (λ z. n (e ∙ z)) ∙ sym e) b
 
-  module _ (z : h .refusal ≡ 0) (full : length tab′ ≡ 1024) where
+  module _ (z : h .refusal ≡ 0) (full : (0 < length tab′) × (length tab′ ≤ 1024)) where
     none : readRefusal s ≡ 0
     none = sym number-is ∙ z
 
@@ -97,8 +100,8 @@ module _ {s tab′ : List ℕ} {h : Sheet} (x : SheetRead s tab′ h) where
 
       pub closes : {tab places : List ℕ} → length tab ≡ 128 → length places ≡ 5 → Closes tab′ roots tab places
       closes {tab} {places} a b = record {
-        few = omega arith;
-        roots-in = λ j l. (let n = roots-length in let e = root-at j l in let w = end-within s none (right .lines) (right .stored) j (omega arith) in omega arith);
+        few = full .1;
+        roots-in = λ j l. (let some = full .0 in let n = roots-length in let e = root-at j l in let w = end-within s none (right .lines) (right .stored) j (omega arith) in omega arith);
         formulas = formulas s;
         given = given;
         fits = λ p m. over-fits (length (letters s)) (let f = sheet-letters s .few in omega arith) p (formulas-over s none p m);

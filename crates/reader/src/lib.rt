@@ -93,13 +93,14 @@ fn roots_of(ends: [usize; 5]) -> [usize; 5]
     ]
 }
 
-// The sheet, where its closure has at most `most` members and its lean at most `wide` places.
-fn read_within(s: &[u8], most: usize, wide: usize) -> Reading
+// The sheet, where its closure has at most `most` members and its lean at most `wide` places, with its nodes in a store that has a place for
+// each of its bytes.
+fn read_in(s: &[u8], most: usize, wide: usize, nodes: &mut [u64]) -> Reading
     requires { ⌜ (most ≤ 128) × (wide ≤ 12) ⌝ }
+    requires { ⌜ ((0 < length (now nodes)) × (length (now nodes) ≤ 1024)) × (length (now s) ≤ 1024 → length (now s) ≤ length (now nodes)) ⌝ }
     ensures { λ r. ⌜ ReadIs most wide (now (s .entry)) r ⌝ }
 {
-    let mut nodes = [0u64; 1024];
-    let sheet = sheet::read_sheet(s, &mut nodes);
+    let sheet = sheet::read_sheet(s, nodes);
     let k = sheet.refusal;
     if k != 0 {
         return refused(k);
@@ -109,8 +110,7 @@ fn read_within(s: &[u8], most: usize, wide: usize) -> Reading
     let roots = roots_of(ends);
     let mut members = [0u64; 128];
     let mut places = [0usize; 5];
-    let Closed::Within(count) = closure::close(&nodes, &roots[..n], &mut members, &mut places)
-    else {
+    let Closed::Within(count) = closure::close(nodes, &roots[..n], &mut members, &mut places) else {
         return refused(9);
     };
     if most < count {
@@ -140,6 +140,19 @@ fn read_within(s: &[u8], most: usize, wide: usize) -> Reading
         width,
         lean,
     }
+}
+
+// The sheet, within those limits. Most sheets are short, and clearing a large store would cost more than reading them.
+fn read_within(s: &[u8], most: usize, wide: usize) -> Reading
+    requires { ⌜ (most ≤ 128) × (wide ≤ 12) ⌝ }
+    ensures { λ r. ⌜ ReadIs most wide (now (s .entry)) r ⌝ }
+{
+    if s.len() <= 256 {
+        let mut nodes = [0u64; 256];
+        return read_in(s, most, wide, &mut nodes);
+    }
+    let mut nodes = [0u64; 1024];
+    read_in(s, most, wide, &mut nodes)
 }
 
 // Every sheet, under document 01's limits.

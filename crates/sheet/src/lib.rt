@@ -54,7 +54,7 @@ pub struct Formulas {
 
 // The formulas on the lines from a line's beginning on, into a table.
 fn read_formulas(s: &[u8], from: usize, decl: &[u8], tab: &mut [u64]) -> Formulas
-    requires { ⌜ (length (now s) ≤ 1024) × ((length (now tab) ≡ 1024) × (length (textsOf (linesFrom (now s) from)) ≤ 5)) ⌝ }
+    requires { ⌜ (length (now s) ≤ length (now tab)) × ((length (now tab) ≤ 1024) × (length (textsOf (linesFrom (now s) from)) ≤ 5)) ⌝ }
     ensures { λ r. ⌜ FormulasRead (now (decl .entry)) (textsOf (linesFrom (now (s .entry)) from)) (now (tab .exit)) r ⌝ }
 {
     let mut ends = [0usize; 5];
@@ -115,8 +115,9 @@ fn refused(k: u8) -> Sheet
     }
 }
 
+// The sheet, its formulas into a table that has a place for each of its bytes, if it is not too long.
 pub fn read_sheet(s: &[u8], tab: &mut [u64]) -> Sheet
-    requires { ⌜ length (now tab) ≡ 1024 ⌝ }
+    requires { ⌜ (length (now tab) ≤ 1024) × (length (now s) ≤ 1024 → length (now s) ≤ length (now tab)) ⌝ }
     ensures { λ r. ⌜ SheetRead (now (s .entry)) (now (tab .exit)) r ⌝ }
 {
     let head = layout::read_head(s);
