@@ -1,4 +1,4 @@
--- What computing a frame asks at each call, and that what the calls give is the sheet's tableau. Assumes nothing.
+-- What finding a frame asks at each call, and that what the calls give is the sheet's tableau. Assumes nothing.
 use mathlib.Core.Path.{_≡_, sym, ap, ap₂, _∙_, subst}
 use mathlib.Core.List.{List, map}
 use Prim.Native.Nat.{ℕ, zero, suc, _-_, _*_, _^_, _≤_, _<_}
@@ -9,13 +9,10 @@ use lib.Seq.{getD-take, length-take-le}
 use Rattle.ctl.proofs.ListLaws.{getD-in}
 use Rattle.ctl.specs.Positive.{positive}
 use Rattle.ctl.specs.Tableau.{Tableau, namePlaces, namings, otherPlaces}
-use Rattle.wordset.specs.Words.{packed}
 use Rattle.sheet.specs.Refusal.{readRefusal}
 use Rattle.sheet.specs.Reading.{formulas, goalOf, globalsOf}
 use Rattle.tableau.specs.Tables.{Leans, Table, form}
-use Rattle.tableau.specs.Truths.{Truths}
-use Rattle.tableau.specs.Links.{Rows}
-use Rattle.tableau.specs.Starts.{makesAll}
+use Rattle.tableau.specs.Links.{linkRoom}
 use Rattle.reader.specs.declared.Reading.{Reading}
 use Rattle.reader.specs.Reader.{Says}
 use Rattle.prepare.specs.declared.Split.{Split}
@@ -26,27 +23,19 @@ use Rattle.prepare.proofs.Bridge.{ex-places, formulas-some, global-inside, glob
 use Rattle.prepare.proofs.SplitBridge.{names-are, names-held, others-are, others-held, split-matches, splits}
 use Rattle.prepare.proofs.NameCount.{name-below, names-two, other-below, others-few}
 use Rattle.judge.specs.Judged.{Places}
-use Rattle.frame.specs.Framed.{Framed, FramedAs, Frames, Given}
+use Rattle.frame.specs.Framed.{Framed, FramedAs, Frames, Given, Sound}
 use Rattle.frame.proofs.CopyLaws.{few-bits}
 
 -- ---- lists and numbers
 
--- at most 4 words for each of at most 128 members
-truth-room : (n w m : ℕ) → n ≤ 128 → w ≤ 4 → 512 ≤ m → n * w ≤ m
-truth-room n zero m h k r = omega arith
-truth-room n (suc zero) m h k r = omega arith
-truth-room n (suc (suc zero)) m h k r = omega arith
-truth-room n (suc (suc (suc zero))) m h k r = omega arith
-truth-room n (suc (suc (suc (suc zero)))) m h k r = omega arith
-truth-room n (suc (suc (suc (suc (suc w))))) m h k r = absurd (omega arith)
-
-link-room : (w m : ℕ) → w ≤ 4 → 16384 ≤ m → w * 1024 * w ≤ m
-link-room zero m k r = omega arith
-link-room (suc zero) m k r = omega arith
-link-room (suc (suc zero)) m k r = omega arith
-link-room (suc (suc (suc zero))) m k r = omega arith
-link-room (suc (suc (suc (suc zero)))) m k r = omega arith
-link-room (suc (suc (suc (suc (suc w))))) m k r = absurd (omega arith)
+-- at most 4 words for each of at most 64 members
+truth-room : (n w : ℕ) → n ≤ 64 → w ≤ 4 → n * w ≤ 256
+truth-room n zero h k = omega arith
+truth-room n (suc zero) h k = omega arith
+truth-room n (suc (suc zero)) h k = omega arith
+truth-room n (suc (suc (suc zero))) h k = omega arith
+truth-room n (suc (suc (suc (suc zero)))) h k = omega arith
+truth-room n (suc (suc (suc (suc (suc w))))) h k = absurd (omega arith)
 
 -- ---- of a reading itself
 
@@ -81,6 +70,13 @@ module _ (s : List ℕ) (r : Reading) (x : Says s r) (z : readRefusal s ≡ 0) w
 
     before-inside : (j : ℕ) → j < length ps - 1 → getD ps j 0 < length ms
     before-inside j h = subst (λ i. i < length ms) (sym (place-is j (omega arith))) (global-inside s r x z j (omega arith))
+
+    before-in : (globals : List ℕ) → globals ≡ take (length ps - 1) ps → (j : ℕ) → j < length globals → getD globals j 0 < length ms
+    before-in globals e j h =
+        let n = length-take-le (length ps - 1) ps (omega arith) in
+        let m = ap length e in
+        let k : j < length ps - 1 = omega arith in
+        subst (λ p. p < length ms) (sym (ap (λ l. getD l j 0) e ∙ getD-take (length ps - 1) ps j 0 k)) (before-inside j k)
 
     last-inside : getD ps (length ps - 1) 0 < length ms
     last-inside = subst (λ i. i < length ms) (sym last-is) (goal-inside s r x z)
@@ -123,21 +119,32 @@ module _ (s : List ℕ) (r : Reading) (x : Says s r) (z : readRefusal s ≡ 0) w
     split-places : Places (take (q .names) names′) (take (q .others) others′)
     split-places = subst (λ l. Places l (take (q .others) others′)) (sym (names-held s r x z y)) (subst (λ l. Places (namePlaces S) l) (sym (others-held s r x z y)) tableau-places)
 
-    module _ (many : length ps ≡ r .formulas) {w n : ℕ} {tw lw base base′ globals : List ℕ} (wide : WordsFor (length ln) w) (tr : Truths ms ln w tw) (rs : Rows ms ln w lw) (eb : base′ ≡ packed w (makesAll ms ln globals) base)
-        (eg : globals ≡ take (length ps - 1) ps) (en : n ≡ 2 ^ (q .others * q .names)) where
-      framed-read : Framed S (positive (goalOf (formulas s))) ms ln base tw lw base′ names′ others′ (record { words = w; names = q .names; others = q .others; goal = getD ps (length ps - 1) 0; namings = n })
-      framed-read = record {
-        ready = record { table = table s r x; leans = leans s r x (let a = lean-length s r x in omega arith); small = (let a = wide .few in omega arith); truths = tr; rows = rs; places = ex-places s r x };
-        globals = globals;
-        based = eb;
+    module _ (many : length ps ≡ r .formulas) (small : length ms ≤ 64) {w l n : ℕ} (globals′ : List ℕ) (wide : WordsFor (length ln) w) (el : l ≡ linkRoom ms w) (eg : take (length ps - 1) globals′ ≡ take (length ps - 1) ps) (en : n ≡ 2 ^ (q .others * q .names)) where
+      abbrev globals : List ℕ
+      globals = take (length ps - 1) globals′
+
+      read-sound : Sound ms ln globals
+      read-sound = record {
+        table = table s r x;
+        leans = leans s r x (let a = lean-length s r x in omega arith);
+        places = ex-places s r x;
+        globals-in = before-in many globals eg;
+      }
+
+      framed-read : r .formulas ≤ 5 → Framed S (positive (goalOf (formulas s))) ms ln globals (take (q .names) names′) (take (q .others) others′) (record { words = w; links = l; globals = length ps - 1; names = q .names; others = q .others; goal = getD ps (length ps - 1) 0; namings = n })
+      framed-read few = record {
+        sound = read-sound;
         matches = split-matches s r x z y globals (before-map many globals eg);
         enough = wide .enough;
         few-words = (wide .some, wide .few);
         no-more = wide .tight;
+        few-truths = truth-room (length ms) w small (wide .few);
+        links-are = el;
         goal-inside = last-inside many;
         goal-is = last-form many;
         namings-are = en ∙ namings-is;
         few-namings = subst (λ m. m ≤ 65536) (sym en) (pow-mono (few-bits (q .names) (q .others) (split-few .0) (split-few .1)));
+        few-globals = omega arith;
         few-places = split-few;
         places-in = split-places;
       }
@@ -181,19 +188,22 @@ module _ {ms ln kinds places s : List ℕ} {r : Reading} (g : Given ms ln kinds 
   given-splits : (names others : List ℕ) → length ln ≤ 8 → 8 ≤ length names → 8 ≤ length others → Splits ms ln names others
   given-splits names others h i j = let a = given-width in given-by (λ m l k p. Splits m l names others) (splits s r (g .says) names others (omega arith) (omega arith) (omega arith))
 
-  pub given-framed : length ln ≤ 8 → {w n : ℕ} {tw lw base base′ globals names others names′ others′ : List ℕ} {q : Split} → WordsFor (length ln) w → Truths ms ln w tw → Rows ms ln w lw → base′ ≡ packed w (makesAll ms ln globals) base
-      → globals ≡ take (length places - 1) places → SplitIs ms ln kinds names others names′ others′ q → n ≡ 2 ^ (q .others * q .names)
-      → Framed (tableauIn s) (positive (goalOf (formulas s))) ms ln base tw lw base′ names′ others′ (record { words = w; names = q .names; others = q .others; goal = getD places (length places - 1) 0; namings = n })
-  given-framed h {w} {n} {tw} {lw} {base} {base′} {globals} {names} {others} {names′} {others′} {q} wide tr rs eb eg y en =
-      given-by (λ m l k p. length l ≤ 8 → WordsFor (length l) w → Truths m l w tw → Rows m l w lw → base′ ≡ packed w (makesAll m l globals) base → globals ≡ take (length p - 1) p → SplitIs m l k names others names′ others′ q
-      → Framed (tableauIn s) (positive (goalOf (formulas s))) m l base tw lw base′ names′ others′ (record { words = w; names = q .names; others = q .others; goal = getD p (length p - 1) 0; namings = n }))
-      (λ a b c d e f i. framed-read s r (g .says) (g .read) a i given-many b c d e f en) h wide tr rs eb eg y
+  pub given-framed : length ln ≤ 8 → length ms ≤ 64 → r .formulas ≤ 5 → {w l n : ℕ} (globals′ : List ℕ) {names others names′ others′ : List ℕ} {q : Split} → WordsFor (length ln) w → l ≡ linkRoom ms w
+      → take (length places - 1) globals′ ≡ take (length places - 1) places → SplitIs ms ln kinds names others names′ others′ q → n ≡ 2 ^ (q .others * q .names)
+      → Framed (tableauIn s) (positive (goalOf (formulas s))) ms ln (take (length places - 1) globals′) (take (q .names) names′) (take (q .others) others′) (record { words = w; links = l; globals = length places - 1; names = q .names; others = q .others; goal = getD places (length places - 1) 0; namings = n })
+  given-framed h i few {w} {l} {n} globals′ {names} {others} {names′} {others′} {q} wide el eg y en =
+      given-by (λ m e k p. length e ≤ 8 → length m ≤ 64 → WordsFor (length e) w → l ≡ linkRoom m w → take (length p - 1) globals′ ≡ take (length p - 1) p → SplitIs m e k names others names′ others′ q
+      → Framed (tableauIn s) (positive (goalOf (formulas s))) m e (take (length p - 1) globals′) (take (q .names) names′) (take (q .others) others′) (record { words = w; links = l; globals = length p - 1; names = q .names; others = q .others; goal = getD p (length p - 1) 0; namings = n }))
+      (λ a b c d e f. framed-read s r (g .says) (g .read) a f given-many b globals′ c d e en few) h i wide el eg y
 
 -- ---- call by call
 
-module _ {ms ln kinds places tw lw base names others : List ℕ} (x : Frames ms ln kinds places tw lw base names others) where
+module _ {ms ln kinds places globals names others : List ℕ} (x : Frames ms ln kinds places globals names others) where
   pub frame-narrow : length ln ≤ 8
   frame-narrow = let a = given-width (x .given) in let b = x .narrow in omega arith
+
+  frame-small : length ms ≤ 64
+  frame-small = let a = given-count (x .given) in let b = x .small in omega arith
 
   pub frame-any : 1 ≤ length places
   frame-any = let a = given-any (x .given) in omega arith
@@ -201,35 +211,12 @@ module _ {ms ln kinds places tw lw base names others : List ℕ} (x : Frames ms 
   pub frame-few : length places ≤ 5
   frame-few = let a = x .given .many in let b = x .few in omega arith
 
-  pub truths-asks : {w : ℕ} → WordsFor (length ln) w → Table ms × (Leans ms ln × (length ms * w ≤ length tw))
-  truths-asks {w} v =
-      let a = given-count (x .given) in
-      let b = x .small in
-      let c = x .narrow in
-      (given-table (x .given), (given-leans (x .given) (omega arith), truth-room (length ms) w (length tw) (omega arith) (v .few) (x .tw-room)))
-
-  pub links-asks : {w : ℕ} {tw′ : List ℕ} → WordsFor (length ln) w → Truths ms ln w tw′ → Table ms × (Truths ms ln w tw′ × ((w * 1024 * w ≤ length lw) × (w ≤ 1024)))
-  links-asks {w} v t = (given-table (x .given), (t, (link-room w (length lw) (v .few) (x .lw-room), (let a = v .few in omega arith))))
-
-  pub copy-asks : ((length places - 1 ≤ length places) × (length places - 1 ≤ 8)) × ((j : ℕ) → j < length places - 1 → getD places j 0 < 256)
+  pub copy-asks : ((length places - 1 ≤ length places) × (length places - 1 ≤ length globals)) × ((j : ℕ) → j < length places - 1 → getD places j 0 < 256)
   copy-asks =
       let f = frame-few in
-      let a = given-count (x .given) in
-      let b = x .small in
+      let a = frame-small in
+      let b = x .globals-room in
       ((omega arith, omega arith), λ j h. (let c = given-before (x .given) j h in omega arith))
-
-  pub copied-room : {m : ℕ} → m ≡ 8 → length places - 1 ≤ m
-  copied-room {m} e = let f = frame-few in omega arith
-
-  pub base-asks : {w : ℕ} {tw′ globals : List ℕ} → WordsFor (length ln) w → Truths ms ln w tw′ → globals ≡ take (length places - 1) places
-      → Truths ms ln w tw′ × (((w ≤ length base) × (length ln ≤ 60)) × ((i : ℕ) → i < length globals → getD globals i 0 < length ms))
-  base-asks {w} {tw′} {globals} v t e =
-      let a = frame-narrow in
-      let b = v .few in
-      let c = x .base-room in
-      let n = length-take-le (length places - 1) places (omega arith) in
-      let m = ap length e in
-      (t, ((omega arith, omega arith), λ i h. (let k : i < length places - 1 = omega arith in subst (λ p. p < length ms) (sym (ap (λ l. getD l i 0) e ∙ getD-take (length places - 1) places i 0 k)) (given-before (x .given) i k))))
 
   pub split-asks : Splits ms ln names others
   split-asks = given-splits (x .given) names others frame-narrow (x .names-room) (x .others-room)
@@ -237,7 +224,7 @@ module _ {ms ln kinds places tw lw base names others : List ℕ} (x : Frames ms 
   pub count-asks : {names₁ others₁ names′ others′ : List ℕ} {q : Split} → SplitIs ms ln kinds names₁ others₁ names′ others′ q → (q .names ≤ 2) × (q .others ≤ 8)
   count-asks y = given-few (x .given) frame-narrow y
 
-  pub frame-is : {w n : ℕ} {tw′ lw′ base′ globals names′ others′ : List ℕ} {q : Split} → WordsFor (length ln) w → Truths ms ln w tw′ → Rows ms ln w lw′ → base′ ≡ packed w (makesAll ms ln globals) base
-      → globals ≡ take (length places - 1) places → SplitIs ms ln kinds names others names′ others′ q → n ≡ 2 ^ (q .others * q .names)
-      → FramedAs ms ln kinds places base tw′ lw′ base′ names′ others′ (record { words = w; names = q .names; others = q .others; goal = getD places (length places - 1) 0; namings = n })
-  frame-is wide tr rs eb eg y en = λ s r g. given-framed g frame-narrow wide tr rs eb eg y en
+  pub frame-is : {w l n : ℕ} (globals′ : List ℕ) {names′ others′ : List ℕ} {q : Split} → WordsFor (length ln) w → l ≡ linkRoom ms w → take (length places - 1) globals′ ≡ take (length places - 1) places
+      → SplitIs ms ln kinds names others names′ others′ q → n ≡ 2 ^ (q .others * q .names)
+      → FramedAs ms ln kinds places globals′ names′ others′ (record { words = w; links = l; globals = length places - 1; names = q .names; others = q .others; goal = getD places (length places - 1) 0; namings = n })
+  frame-is globals′ wide el eg y en = λ s r g. given-framed g frame-narrow frame-small (let a = frame-few in let b = g .many in omega arith) globals′ wide el eg y en

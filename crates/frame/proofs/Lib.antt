@@ -2,3 +2,4 @@ pub mod CopyLaws
 pub mod FrameLaws
 pub mod VerdictLaws
 pub mod SetUpLaws
+pub mod Stores

@@ -1,28 +1,27 @@
 -- From a reading to a set-up, call by call. Assumes nothing.
-use mathlib.Core.Path.{_≡_, refl, sym, ap, _∙_, subst}
+use mathlib.Core.Path.{_≡_, refl, sym, ap, _∙_}
 use mathlib.Core.List.{List}
 use mathlib.Core.Logic.{_⊎_, inl, inr}
 use Prim.Native.Nat.{ℕ, _≤_, _<_}
 use native.Mathlib.Omega.{arith}
-use lib.ListN.{length, length-map, replicate, take}
+use lib.ListN.{length, length-map, take}
 use lib.Seq.{length-take-le}
 use Rattle.wordset.proofs.BelowLaws.{lt-or-le}
 use Rattle.sheet.specs.Refusal.{readRefusal}
-use Rattle.sheet.specs.Reading.{formulas, goalOf}
-use Rattle.ctl.specs.Positive.{positive}
+use Rattle.sheet.specs.Reading.{formulas}
 use Rattle.sheet.proofs.SizeLaws.{formulas-many, texts-five}
 use Rattle.reader.specs.declared.Reading.{Reading}
 use Rattle.reader.specs.Reader.{ReadIs, Says, members, numberOf, places, refusalOf}
 use Rattle.reader.proofs.NumberLaws.{within-nine, within-ten, within-zero}
 use Rattle.reader.proofs.ReadLaws.{take-within}
-use Rattle.prepare.specs.Prepared.{kindsOf, leanOf, tableOf, tableauIn}
-use Rattle.frame.specs.Framed.{Framed, FramedAs, Frames, Given}
+use Rattle.prepare.specs.Prepared.{kindsOf, leanOf, tableOf}
+use Rattle.frame.specs.Framed.{FramedAs, Frames, Given}
 use Rattle.frame.specs.SetUp.{SetUp, nothingBy}
 use Rattle.frame.specs.declared.Frame.{Frame}
 use Rattle.frame.specs.declared.Setup.{Setup}
 
 module _ {s : List ℕ} {r : Reading} (x : ReadIs 64 8 s r) {k : ℕ} (e : k ≡ numberOf (r .refusal)) where
-  pub setup-refused : {tw lw : List ℕ} {u : Setup} → (k ≡ 0 → ⊥) → u ≡ nothingBy k → SetUp s tw lw u
+  pub setup-refused : {u : Setup} → (k ≡ 0 → ⊥) → u ≡ nothingBy k → SetUp s u
   setup-refused h i = record { is = ap (λ q. q .refusal) i ∙ e ∙ x .is; accepts = λ z. absurd (h (e ∙ x .is ∙ z)) }
 
   module _ (none : k ≡ 0) where
@@ -70,49 +69,50 @@ module _ {s : List ℕ} {r : Reading} (x : ReadIs 64 8 s r) {k : ℕ} (e : k ≡
     given : length (r .places) ≡ 5 → Given (tableOf r) (leanOf r) (kindsOf r) (take (r .formulas) (r .places)) s r
     given a = record { says = says; read = right; table-is = refl; lean-is = refl; kinds-are = refl; places-are = refl; many = length-take-le (r .formulas) (r .places) (formulas-within a) }
 
-    pub frame-asked : {tw lw base names others : List ℕ} → length (r .places) ≡ 5 → (512 ≤ length tw) × (16384 ≤ length lw) → length base ≡ 4 → length names ≡ 8 → length others ≡ 8
-        → Frames (tableOf r) (leanOf r) (kindsOf r) (take (r .formulas) (r .places)) tw lw base names others
-    frame-asked a room b c d = record {
+    pub frame-asked : {globals names others : List ℕ} → length (r .places) ≡ 5 → length globals ≡ 8 → length names ≡ 8 → length others ≡ 8
+        → Frames (tableOf r) (leanOf r) (kindsOf r) (take (r .formulas) (r .places)) globals names others
+    frame-asked a b c d = record {
       sheet = s;
       reading = r;
       given = given a;
       few = formulas-five;
       narrow = lean-few;
       small = (let m = members-few in let n = says .tabled .count in omega arith);
-      tw-room = room .0;
-      lw-room = room .1;
-      base-room = omega arith;
+      globals-room = omega arith;
       names-room = omega arith;
       others-room = omega arith;
     }
 
-    pub setup-accepted : {base tw lw base′ names′ others′ : List ℕ} {f : Frame} → base ≡ replicate 4 0 → length (r .places) ≡ 5
-        → FramedAs (tableOf r) (leanOf r) (kindsOf r) (take (r .formulas) (r .places)) base tw lw base′ names′ others′ f → length base′ ≡ 4 → length names′ ≡ 8 → length others′ ≡ 8
-        → SetUp s tw lw (record {
+    pub setup-accepted : {globals′ names′ others′ : List ℕ} {f : Frame} → length (r .places) ≡ 5
+        → FramedAs (tableOf r) (leanOf r) (kindsOf r) (take (r .formulas) (r .places)) globals′ names′ others′ f → length globals′ ≡ 8 → length names′ ≡ 8 → length others′ ≡ 8
+        → SetUp s (record {
           refusal = 0;
           count = r .count;
           members = r .members;
           width = r .width;
           lean = r .lean;
-          base = base′;
+          globals = f .globals;
+          everywhere = globals′;
           names = f .names;
           named = names′;
           others = f .others;
           unnamed = others′;
           words = f .words;
+          links = f .links;
           goal = f .goal;
           namings = f .namings;
         })
-    setup-accepted {base} {tw} {lw} {base′} {names′} {others′} {f} i a y b c d = record {
+    setup-accepted {globals′} {names′} {others′} {f} a y b c d = record {
       is = sym zero-is;
       accepts = λ z. (let x = y s r (given a) in
+          let m = x .few-globals in
           let n = x .few-places in
           record {
-            framed = subst (λ l. Framed (tableauIn s) (positive (goalOf (formulas s))) (tableOf r) (leanOf r) l tw lw base′ names′ others′ f) i x;
+            framed = x;
             members-within = count-within;
             lean-within = width-within;
+            globals-within = omega arith;
             names-within = omega arith;
             others-within = omega arith;
-            base-long = b;
           });
     }

@@ -2,19 +2,21 @@
 use mathlib.Core.Path.{_≡_, sym, ap, _∙_, subst}
 use mathlib.Core.List.{List}
 use Prim.Native.Nat.{ℕ, _≤_}
-use lib.ListN.{length, take}
+use lib.ListN.{length}
 use Rattle.ctl.specs.Formula.{Form}
 use Rattle.ctl.specs.Tableau.{Tableau}
 use Rattle.ctl.specs.Verdict.{verdict}
+use Rattle.wordset.specs.Words.{packed}
+use Rattle.tableau.specs.Starts.{makesAll}
 use Rattle.judge.specs.declared.Verdict.{Verdict}
 use Rattle.judge.specs.Judged.{Judged, goalsAt, verdictOf}
 use Rattle.judge.proofs.JudgeLaws.{judged-is}
 use Rattle.frame.specs.declared.Frame.{Frame}
 use Rattle.frame.specs.Framed.{Framed}
 
-module _ {S : Tableau} {goal : Form} {ms ln base tw′ lw′ base′ names′ others′ : List ℕ} {f : Frame} (x : Framed S goal ms ln base tw′ lw′ base′ names′ others′ f) where
-  pub framed-verdict : f .words ≤ length base → {a : Verdict} → Judged (goalsAt ms ln (f .words) base′ (take (f .names) names′) (take (f .others) others′) (f .goal)) (f .namings) a → verdict S goal ≡ verdictOf a
-  framed-verdict h {a} j =
+module _ {S : Tableau} {goal : Form} {ms ln globals names others : List ℕ} {f : Frame} (x : Framed S goal ms ln globals names others f) where
+  pub framed-verdict : (base : List ℕ) {base′ : List ℕ} → f .words ≤ length base → base′ ≡ packed (f .words) (makesAll ms ln globals) base → {a : Verdict} → Judged (goalsAt ms ln (f .words) base′ names others (f .goal)) (f .namings) a → verdict S goal ≡ verdictOf a
+  framed-verdict base {base′} h b {a} j =
       ap (verdict S) (sym (x .goal-is))
-      ∙ judged-is (x .matches) (f .words) base base′ h (x .based) (x .enough) (f .goal)
-      (subst (λ n. Judged (goalsAt ms ln (f .words) base′ (take (f .names) names′) (take (f .others) others′) (f .goal)) n a) (x .namings-are) j)
+      ∙ judged-is (x .matches) (f .words) base base′ h b (x .enough) (f .goal)
+      (subst (λ n. Judged (goalsAt ms ln (f .words) base′ names others (f .goal)) n a) (x .namings-are) j)

@@ -1,18 +1,19 @@
--- What judging needs of a sheet, once for all namings: what computing it asks, and what it gives. Assumes nothing.
+-- What is read off a sheet for judging it, once for all namings: what finding it asks, and what it gives; and what the words ask that are
+-- computed from it. Assumes nothing.
+use mathlib.Core.Bool.{true}
 use mathlib.Core.Path.{_≡_}
 use mathlib.Core.List.{List}
 use Prim.Native.Nat.{ℕ, _*_, _^_, _≤_, _<_, max}
-use lib.ListN.{length, take}
+use lib.ListN.{length, getD, take}
 use Rattle.ctl.specs.Formula.{Form}
+use Rattle.ctl.specs.Modes.{single}
 use Rattle.ctl.specs.Positive.{positive}
 use Rattle.ctl.specs.Tableau.{Tableau, namings}
-use Rattle.wordset.specs.Words.{packed}
 use Rattle.sheet.specs.Refusal.{readRefusal}
 use Rattle.sheet.specs.Reading.{formulas, goalOf}
-use Rattle.tableau.specs.Families.{Ready}
+use Rattle.tableau.specs.Links.{linkRoom}
 use Rattle.tableau.specs.Matches.{Matches}
-use Rattle.tableau.specs.Starts.{makesAll}
-use Rattle.tableau.specs.Tables.{form}
+use Rattle.tableau.specs.Tables.{Leans, Table, argAt, form, tagAt}
 use Rattle.reader.specs.declared.Reading.{Reading}
 use Rattle.reader.specs.Reader.{Says}
 use Rattle.prepare.specs.Prepared.{kindsOf, leanOf, tableOf, tableauIn}
@@ -30,36 +31,43 @@ pub record Given (ms ln kinds places : List ℕ) (s : List ℕ) (r : Reading) : 
   pub many : length places ≡ r .formulas
 
 -- what is asked: these, within their limits, and room in the stores
-pub record Frames (ms ln kinds places tw lw base names others : List ℕ) : Type 0 where
+pub record Frames (ms ln kinds places globals names others : List ℕ) : Type 0 where
   pub sheet : List ℕ
   pub reading : Reading
   pub given : Given ms ln kinds places sheet reading
   pub few : reading .formulas ≤ 5
   pub narrow : reading .width ≤ 8
-  pub small : reading .count ≤ 128
-  pub tw-room : 512 ≤ length tw
-  pub lw-room : 16384 ≤ length lw
-  pub base-room : 4 ≤ length base
+  pub small : reading .count ≤ 64
+  pub globals-room : 8 ≤ length globals
   pub names-room : 8 ≤ length names
   pub others-room : 8 ≤ length others
 
+-- a table with its lean, in which each EX over one mode has a place, and globals of it
+pub record Sound (ms ln globals : List ℕ) : Type 0 where
+  pub table : Table ms
+  pub leans : Leans ms ln
+  pub places : (i : ℕ) → i < length ms → tagAt ms i ≡ 6 → single (argAt ms i) ≡ true → (k : ℕ) × (k < length ln) × (getD ln k 0 ≡ i)
+  pub globals-in : (i : ℕ) → i < length globals → getD globals i 0 < length ms
+
 -- and what is given
-pub record Framed (S : Tableau) (goal : Form) (ms ln base tw′ lw′ base′ names′ others′ : List ℕ) (f : Frame) : Type 0 where
-  pub ready : Ready ms ln (f .words) tw′ lw′
-  pub globals : List ℕ
-  pub based : base′ ≡ packed (f .words) (makesAll ms ln globals) base
-  pub matches : Matches S ms ln globals (take (f .names) names′) (take (f .others) others′)
+pub record Framed (S : Tableau) (goal : Form) (ms ln globals names others : List ℕ) (f : Frame) : Type 0 where
+  pub sound : Sound ms ln globals
+  pub matches : Matches S ms ln globals names others
   pub enough : 2 ^ length ln ≤ f .words * 64
   pub few-words : (1 ≤ f .words) × (f .words ≤ 4)
   pub no-more : f .words * 64 ≤ max 64 (2 ^ length ln)
+  pub few-truths : length ms * f .words ≤ 256
+  pub links-are : f .links ≡ linkRoom ms (f .words)
   pub goal-inside : f .goal < length ms
   pub goal-is : form ms (f .goal) ≡ goal
   pub namings-are : f .namings ≡ namings S
   pub few-namings : f .namings ≤ 65536
+  pub few-globals : f .globals ≤ 8
   pub few-places : (f .names ≤ 2) × (f .others ≤ 8)
-  pub places-in : Places (take (f .names) names′) (take (f .others) others′)
+  pub places-in : Places names others
 
 -- for whichever sheet and reading they are of
-abbrev pub FramedAs : List ℕ → List ℕ → List ℕ → List ℕ → List ℕ → List ℕ → List ℕ → List ℕ → List ℕ → List ℕ → Frame → Type 0
-FramedAs ms ln kinds places base tw′ lw′ base′ names′ others′ f =
-    (s : List ℕ) (r : Reading) → Given ms ln kinds places s r → Framed (tableauIn s) (positive (goalOf (formulas s))) ms ln base tw′ lw′ base′ names′ others′ f
+abbrev pub FramedAs : List ℕ → List ℕ → List ℕ → List ℕ → List ℕ → List ℕ → List ℕ → Frame → Type 0
+FramedAs ms ln kinds places globals′ names′ others′ f =
+    (s : List ℕ) (r : Reading) → Given ms ln kinds places s r
+    → Framed (tableauIn s) (positive (goalOf (formulas s))) ms ln (take (f .globals) globals′) (take (f .names) names′) (take (f .others) others′) f

@@ -19,12 +19,14 @@ nothingBy k = record {
   members = replicate 128 0;
   width = 0;
   lean = replicate 12 0;
-  base = replicate 4 0;
+  globals = 0;
+  everywhere = replicate 8 0;
   names = 0;
   named = replicate 8 0;
   others = 0;
   unnamed = replicate 8 0;
   words = 0;
+  links = 0;
   goal = 0;
   namings = 0;
 }
@@ -36,6 +38,9 @@ membersIn r = take (r .count) (r .members)
 abbrev pub leanIn : Setup → List ℕ
 leanIn r = take (r .width) (r .lean)
 
+abbrev pub globalsIn : Setup → List ℕ
+globalsIn r = take (r .globals) (r .everywhere)
+
 abbrev pub namesIn : Setup → List ℕ
 namesIn r = take (r .names) (r .named)
 
@@ -43,17 +48,17 @@ abbrev pub othersIn : Setup → List ℕ
 othersIn r = take (r .others) (r .unnamed)
 
 abbrev pub frameIn : Setup → Frame
-frameIn r = record { words = r .words; names = r .names; others = r .others; goal = r .goal; namings = r .namings }
+frameIn r = record { words = r .words; links = r .links; globals = r .globals; names = r .names; others = r .others; goal = r .goal; namings = r .namings }
 
--- that of a sheet which is not refused, with its truth words and link words
-pub record Accepts (s tw′ lw′ : List ℕ) (r : Setup) : Type 0 where
-  pub framed : Framed (tableauIn s) (positive (goalOf (formulas s))) (membersIn r) (leanIn r) (replicate 4 0) tw′ lw′ (r .base) (r .named) (r .unnamed) (frameIn r)
+-- that of a sheet which is not refused
+pub record Accepts (s : List ℕ) (r : Setup) : Type 0 where
+  pub framed : Framed (tableauIn s) (positive (goalOf (formulas s))) (membersIn r) (leanIn r) (globalsIn r) (namesIn r) (othersIn r) (frameIn r)
   pub members-within : r .count ≤ length (r .members)
   pub lean-within : r .width ≤ length (r .lean)
+  pub globals-within : r .globals ≤ length (r .everywhere)
   pub names-within : r .names ≤ length (r .named)
   pub others-within : r .others ≤ length (r .unnamed)
-  pub base-long : length (r .base) ≡ 4
 
-pub record SetUp (s tw′ lw′ : List ℕ) (r : Setup) : Type 0 where
+pub record SetUp (s : List ℕ) (r : Setup) : Type 0 where
   pub is : r .refusal ≡ refusalOf s
-  pub accepts : refusalOf s ≡ 0 → Accepts s tw′ lw′ r
+  pub accepts : refusalOf s ≡ 0 → Accepts s r

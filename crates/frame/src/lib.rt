@@ -1,8 +1,13 @@
-// From a sheet's bytes to what judging it needs, all that depends on the sheet alone: computed once for all namings. Assumes nothing.
+// From a sheet's bytes to what judging it needs, all that depends on the sheet alone, once for all namings: first what is read off the sheet,
+// then the words that are computed from it, in stores that are lent by its size. Assumes nothing.
 ghost use mathlib.Core.Path.{_≡_};
 ghost use Prim.Native.Nat.{ℕ, _*_, _^_, _≤_, _<_};
 ghost use lib.ListN.{length, getD, take};
-ghost use Rattle.frame.specs.Framed.{Frames, FramedAs};
+ghost use Rattle.tableau.specs.Families.{Ready};
+ghost use Rattle.tableau.specs.Links.{linkRoom};
+ghost use Rattle.tableau.specs.Starts.{makesAll};
+ghost use Rattle.wordset.specs.Words.{packed};
+ghost use Rattle.frame.specs.Framed.{Frames, FramedAs, Sound};
 ghost use Rattle.frame.specs.SetUp.{SetUp, nothingBy};
 
 // The first n of some places, each below 256, at the beginning of a store.
@@ -26,43 +31,43 @@ fn count_namings(names: usize, others: usize) -> u64
     1 << (others * names)
 }
 
-// How many words hold the types; how many names and other places there are; the goal's place in the table; how many namings there are.
+// How many words hold the types, and how many link words they need; how many globals, names and other places there are; the goal's place in
+// the table; how many namings there are.
 pub struct Frame {
     pub words: usize,
+    pub links: usize,
+    pub globals: usize,
     pub names: usize,
     pub others: usize,
     pub goal: usize,
     pub namings: u64,
 }
 
-// Truth words and link words, the words of the globals, and the places of names and others, each in its store.
+// The places of globals, names and others, each in its store.
 fn frame_of(
     ms: &[u64],
     ln: &[u8],
     kinds: &[u8],
     places: &[usize],
-    tw: &mut [u64],
-    lw: &mut [u64],
-    base: &mut [u64],
+    globals: &mut [u8],
     names: &mut [u8],
     others: &mut [u8],
 ) -> Frame
-    requires { ⌜ Frames (now ms) (now ln) (now kinds) (now places) (now tw) (now lw) (now base) (now names) (now others) ⌝ }
-    ensures { λ f. ⌜ FramedAs (now (ms .entry)) (now (ln .entry)) (now (kinds .entry)) (now (places .entry)) (now (base .entry)) (now (tw .exit)) (now (lw .exit)) (now (base .exit)) (now (names .exit)) (now (others .exit)) f ⌝ }
+    requires { ⌜ Frames (now ms) (now ln) (now kinds) (now places) (now globals) (now names) (now others) ⌝ }
+    ensures { λ f. ⌜ FramedAs (now (ms .entry)) (now (ln .entry)) (now (kinds .entry)) (now (places .entry)) (now (globals .exit)) (now (names .exit)) (now (others .exit)) f ⌝ }
 {
     let w = prepare::words_for(ln.len());
-    tableau::truth::truth_words(ms, ln, tw, w);
-    tableau::links::link_words(ms, ln, tw, lw, w);
+    let links = tableau::links::link_room(ms, w);
     let n = places.len() - 1;
-    let mut globals = [0u8; 8];
-    copy_places(places, n, &mut globals);
-    tableau::start::base_words(ms, ln, tw, w, &globals[..n], base);
+    copy_places(places, n, globals);
     let split = prepare::split_lean(ms, ln, kinds, names, others);
     let k = split.names;
     let m = split.others;
     let namings = count_namings(k, m);
     Frame {
         words: w,
+        links,
+        globals: n,
         names: k,
         others: m,
         goal: places[n],
@@ -70,20 +75,22 @@ fn frame_of(
     }
 }
 
-// What judging a sheet goes by: its closure and lean, as the reader has them, the words of the globals, the places of names and others, and the
-// frame's numbers; or its refusal, with nothing else.
+// What judging a sheet goes by: its closure and lean, as the reader has them, the places of globals, names and others, and the frame's
+// numbers; or its refusal, with nothing else.
 pub struct Setup {
     pub refusal: u8,
     pub count: usize,
     pub members: [u64; 128],
     pub width: usize,
     pub lean: [u8; 12],
-    pub base: [u64; 4],
+    pub globals: usize,
+    pub everywhere: [u8; 8],
     pub names: usize,
     pub named: [u8; 8],
     pub others: usize,
     pub unnamed: [u8; 8],
     pub words: usize,
+    pub links: usize,
     pub goal: usize,
     pub namings: u64,
 }
@@ -97,21 +104,22 @@ fn nothing(k: u8) -> Setup
         members: [0u64; 128],
         width: 0,
         lean: [0u8; 12],
-        base: [0u64; 4],
+        globals: 0,
+        everywhere: [0u8; 8],
         names: 0,
         named: [0u8; 8],
         others: 0,
         unnamed: [0u8; 8],
         words: 0,
+        links: 0,
         goal: 0,
         namings: 0,
     }
 }
 
-// Any bytes: a sheet's set-up, with its truth words and link words in the two stores, or its refusal.
-pub fn set_up(s: &[u8], tw: &mut [u64], lw: &mut [u64]) -> Setup
-    requires { ⌜ (512 ≤ length (now tw)) × (16384 ≤ length (now lw)) ⌝ }
-    ensures { λ r. ⌜ SetUp (now (s .entry)) (now (tw .exit)) (now (lw .exit)) r ⌝ }
+// Any bytes: a sheet's set-up, or its refusal.
+pub fn set_up(s: &[u8]) -> Setup
+    ensures { λ r. ⌜ SetUp (now (s .entry)) r ⌝ }
 {
     let reading = reader::read(s);
     let refusal = reading.refusal;
@@ -127,7 +135,7 @@ pub fn set_up(s: &[u8], tw: &mut [u64], lw: &mut [u64]) -> Setup
     let width = reading.width;
     let symbols = reading.symbols;
     let formulas = reading.formulas;
-    let mut base = [0u64; 4];
+    let mut everywhere = [0u8; 8];
     let mut named = [0u8; 8];
     let mut unnamed = [0u8; 8];
     let f = frame_of(
@@ -135,9 +143,7 @@ pub fn set_up(s: &[u8], tw: &mut [u64], lw: &mut [u64]) -> Setup
         &lean[..width],
         &kinds[..symbols],
         &places[..formulas],
-        tw,
-        lw,
-        &mut base,
+        &mut everywhere,
         &mut named,
         &mut unnamed,
     );
@@ -147,13 +153,35 @@ pub fn set_up(s: &[u8], tw: &mut [u64], lw: &mut [u64]) -> Setup
         members,
         width,
         lean,
-        base,
+        globals: f.globals,
+        everywhere,
         names: f.names,
         named,
         others: f.others,
         unnamed,
         words: f.words,
+        links: f.links,
         goal: f.goal,
         namings: f.namings,
     }
+}
+
+// The words that depend on the sheet alone: truth words and link words, and in `base` the types in which all globals are true.
+pub fn fill(
+    ms: &[u64],
+    ln: &[u8],
+    w: usize,
+    globals: &[u8],
+    tw: &mut [u64],
+    lw: &mut [u64],
+    base: &mut [u64],
+)
+    requires { ⌜ Sound (now ms) (now ln) (now globals) ⌝ }
+    requires { ⌜ (w ≤ 4) × (length (now ms) * w ≤ length (now tw)) × (linkRoom (now ms) w ≤ length (now lw)) × (w ≤ length (now base)) ⌝ }
+    ensures { λ _. ⌜ Ready (now (ms .entry)) (now (ln .entry)) w (now (tw .exit)) (now (lw .exit)) ⌝ }
+    ensures { λ _. ⌜ now (base .exit) ≡ packed w (makesAll (now (ms .entry)) (now (ln .entry)) (now (globals .entry))) (now (base .entry)) ⌝ }
+{
+    tableau::truth::truth_words(ms, ln, tw, w);
+    tableau::links::link_words(ms, ln, tw, lw, w);
+    tableau::start::base_words(ms, ln, tw, w, globals, base);
 }

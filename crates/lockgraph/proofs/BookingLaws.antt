@@ -8,16 +8,13 @@ use native.Mathlib.Nat.{mul-le-mul}
 use lib.ListN.{length, drop}
 use borrow.Author.Tests.{le-ltb, lt-ltb}
 use Rattle.ctl.specs.Lists.{elem}
-use Rattle.tableau.specs.Families.{Survivors}
-use Rattle.tableau.specs.Starts.{startList}
 use Rattle.booking.specs.Booked.{tablesBy}
-use Rattle.booking.proofs.BookLaws.{tables-ext}
 use Rattle.reader.specs.Reader.{refusalOf}
-use Rattle.frame.specs.SetUp.{SetUp, leanIn, membersIn, namesIn, othersIn}
+use Rattle.frame.specs.SetUp.{SetUp}
 use Rattle.frame.specs.declared.Setup.{Setup}
 use Rattle.lockgraph.specs.declared.books.BookAnswer.the-variants.{Done, Refused}
 use Rattle.lockgraph.specs.Outcomes.{BookIs, bookAnswer, bookRefusal, bookStore, namingsIn, storeRefusal, survivorsIn, wordsIn}
-use Rattle.lockgraph.proofs.Accepted.{few-namings, few-words, namings-are, not-refused, survivors-are, words-are}
+use Rattle.lockgraph.proofs.Accepted.{few-namings, few-words, namings-are, not-refused, words-are}
 use Rattle.lockgraph.proofs.RefusalLaws.{else-first, else-next, refused-case}
 
 -- a refusal leaves the store alone
@@ -27,7 +24,7 @@ refused-by s {k} d e n = record {
   store-holds = refused-case (λ q. d) (λ q. bookStore s q d) (λ q. refl) k n ∙ ap (λ q. bookStore s q d) e;
 }
 
-module _ {s tw lw : List ℕ} {u : Setup} (x : SetUp s tw lw u) where
+module _ {s : List ℕ} {u : Setup} (x : SetUp s u) where
   pub book-refused : (d : List ℕ) → (u .refusal ≡ 0 → ⊥) → BookIs s d (Refused (u .refusal)) d
   unfolding bookRefusal
   book-refused d n = refused-by s d (x .is ∙ sym (else-first (refusalOf s) (storeRefusal (namingsIn s * wordsIn s) (length d)) (λ h. n (x .is ∙ h)))) n
@@ -47,13 +44,11 @@ module _ {s tw lw : List ℕ} {u : Setup} (x : SetUp s tw lw u) where
     book-short d h = refused-by s d (sym (number-is (length d) ∙ ap (λ b. cond b 12 0) (lt-ltb (length d) (u .namings * u .words) h))) (λ i. omega arith)
 
     pub book-done : (d d′ : List ℕ) → u .namings * u .words ≤ length d
-        → d′ ≡ tablesBy (u .words) (λ r t. elem t (Survivors (membersIn u) (leanIn u) (startList (u .words) (u .base) (namesIn u) (othersIn u) r))) (u .namings) ++ drop (u .namings * u .words) d
+        → d′ ≡ tablesBy (wordsIn s) (λ r t. elem t (survivorsIn s r)) (u .namings) ++ drop (u .namings * wordsIn s) d
         → BookIs s d (Done (u .namings) (u .words)) d′
     book-done d d′ h e =
         let none : bookRefusal s (length d) ≡ 0 = number-is (length d) ∙ ap (λ b. cond b 12 0) (le-ltb (length d) (u .namings * u .words) h) in
         record {
           answer = ap₂ Done (namings-are x z) (words-are x z) ∙ ap (bookAnswer s) (sym none);
-          store-holds = (e ∙ ap₂ _++_
-              (tables-ext (u .words) _ _ (u .namings) (λ r t. ap (elem t) (survivors-are x z r)) ∙ ap₂ (λ w n. tablesBy w (λ r t. elem t (survivorsIn s r)) n) (words-are x z) (namings-are x z))
-              (ap (λ n. drop n d) needed-is) ∙ ap (λ q. bookStore s q d) (sym none));
+          store-holds = e ∙ ap (λ n. tablesBy (wordsIn s) (λ r t. elem t (survivorsIn s r)) n ++ drop (n * wordsIn s) d) (namings-are x z) ∙ ap (λ q. bookStore s q d) (sym none);
         }

@@ -37,7 +37,7 @@ pub record Wide (s : List ℕ) : Type 0 where
   pub few : wordsIn s ≤ 4
   pub enough : 2 ^ length (tableauIn s .ln) ≤ wordsIn s * 64
 
-pub set-up-wide : {s tw lw : List ℕ} {u : Setup} → SetUp s tw lw u → refusalOf s ≡ 0 → Wide s
+pub set-up-wide : {s : List ℕ} {u : Setup} → SetUp s u → refusalOf s ≡ 0 → Wide s
 set-up-wide {s} x z = let e = x .is ∙ z in record { few = subst (λ w. w ≤ 4) (words-are x e) (few-words x e); enough = types-within x e }
 
 whole : (s : List ℕ) → WholeClaim s (Ctl.verdict (tableauIn s) (positive (goalOf (formulas s))))

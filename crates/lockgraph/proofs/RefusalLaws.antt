@@ -66,7 +66,7 @@ table-room s r a b e z = table-none s r a b (sym e ∙ z) .1
 
 -- ---- from a set-up
 
-module _ {s tw lw : List ℕ} {u : Setup} (x : SetUp s tw lw u) where
+module _ {s : List ℕ} {u : Setup} (x : SetUp s u) where
   -- what comes after the sheet's own refusals may go by the set-up's number of namings
   then-naming : (r k : ℕ) → orElse (u .refusal) (orElse (namingRefusal (u .namings) r) k) ≡ orElse (refusalOf s) (orElse (namingRefusal (namingsIn s) r) k)
   then-naming r k = go (u .refusal) refl

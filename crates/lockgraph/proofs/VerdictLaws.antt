@@ -16,7 +16,7 @@ use Rattle.lockgraph.specs.Outcomes.{verdictAnswer, verdictBy, verdictIn
 use Rattle.lockgraph.proofs.Accepted.{not-refused}
 use Rattle.lockgraph.proofs.RefusalLaws.{refused-case}
 
-module _ {s tw lw : List ℕ} {u : Setup} (x : SetUp s tw lw u) where
+module _ {s : List ℕ} {u : Setup} (x : SetUp s u) where
   pub verdict-refused : (u .refusal ≡ 0 → ⊥) → Refused (u .refusal) ≡ verdictOf s
   unfolding verdictOf
   verdict-refused n = refused-case Refused (verdictAnswer s) (λ q. refl) (u .refusal) n ∙ ap (verdictAnswer s) (x .is)

@@ -1,6 +1,7 @@
 // List: the surviving types under one naming, as numbers in a lent store. Assumes nothing.
 use crate::refusals::naming_refusal;
 use crate::refusals::or_else;
+use crate::tables::fitted_table;
 ghost use Rattle.lockgraph.specs.Outcomes.{ListIs};
 
 // A refusal by its number, or how many types survive.
@@ -13,36 +14,18 @@ pub enum ListAnswer {
 pub fn list(sheet: &[u8], naming: u64, store: &mut [u16]) -> ListAnswer
     ensures { λ o. ⌜ ListIs (now (sheet .entry)) naming (now (store .entry)) o (now (store .exit)) ⌝ }
 {
-    let mut tw = [0u64; 512];
-    let mut lw = [0u64; 16384];
-    let u = frame::set_up(sheet, &mut tw, &mut lw);
+    let u = frame::set_up(sheet);
     let k = or_else(u.refusal, naming_refusal(u.namings, naming));
     if k != 0 {
         return ListAnswer::Refused(k);
     }
-    let members = u.members;
-    let lean = u.lean;
-    let named = u.named;
-    let unnamed = u.unnamed;
-    let base = u.base;
+    let words = u.words;
     let mut first = [0u64; 4];
     let mut second = [0u64; 4];
-    let c = judge::fill_table(
-        &members[..u.count],
-        &lean[..u.width],
-        u.words,
-        &tw,
-        &lw,
-        &named[..u.names],
-        &unnamed[..u.others],
-        &base,
-        naming,
-        &mut first,
-        &mut second,
-    );
+    let c = fitted_table(sheet, u, naming, &mut first, &mut second);
     if store.len() < c.left {
         return ListAnswer::Refused(12);
     }
-    let n = listing::list_members(&first, u.words, store);
+    let n = listing::list_members(&first, words, store);
     ListAnswer::Done { left: n }
 }

@@ -97,14 +97,13 @@ module _ {goals : ℕ → List ℕ} {n : ℕ} {out₀ : List ℕ} where
 
 -- ---- what printing the rows asks, from the set-up of a sheet that is not refused
 
-module _ {s tw lw : List ℕ} {u : Setup} (x : SetUp s tw lw u) (e : u .refusal ≡ 0) where
-  pub accepted : Accepts s tw lw u
+module _ {s : List ℕ} {u : Setup} (x : SetUp s u) (e : u .refusal ≡ 0) where
+  pub accepted : Accepts s u
   accepted = x .accepts (sym (x .is) ∙ e)
 
-  pub rows-asked : Ready (membersIn u) (leanIn u) (u .words) tw lw × (Places (namesIn u) (othersIn u) × ((u .words ≤ 4) × ((u .words ≤ length (u .base)) × (u .goal < length (membersIn u)))))
-  rows-asked =
-      let a = accepted in
-      let f = a .framed in
+  pub rows-asked : {tw lw : List ℕ} {b : ℕ} → Ready (membersIn u) (leanIn u) (u .words) tw lw → b ≡ 4
+      → Ready (membersIn u) (leanIn u) (u .words) tw lw × (Places (namesIn u) (othersIn u) × ((u .words ≤ 4) × ((u .words ≤ b) × (u .goal < length (membersIn u)))))
+  rows-asked r i =
+      let f = accepted .framed in
       let w = f .few-words .1 in
-      let b = a .base-long in
-      (f .ready, (f .places-in, (w, (omega arith, f .goal-inside))))
+      (r, (f .places-in, (w, (omega arith, f .goal-inside))))

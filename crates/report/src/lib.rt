@@ -4,10 +4,12 @@ ghost use Prim.Native.Nat.{_≤_, _<_};
 ghost use lib.ListN.{length};
 ghost use Rattle.tableau.specs.Families.{Ready};
 ghost use Rattle.judge.specs.Judged.{goalsAt, Places, Judged};
+ghost use Rattle.frame.specs.SetUp.{SetUp};
 ghost use Rattle.report.specs.Later.{laterOf};
 
 mod text;
 
+use frame::Setup;
 use judge::Verdict;
 use tableau::goal::Found;
 use tableau::table::Counts;
@@ -124,36 +126,38 @@ fn refused(k: u8, newline: &[u8]) {
     flush(&out, n);
 }
 
-// What the program prints of a sheet, each line ended by `newline`. What depends on the sheet alone is computed once, before the first naming.
-pub fn report(sheet: &[u8], newline: &[u8]) {
-    let mut tw = [0u64; 512];
-    let mut lw = [0u64; 16384];
-    let u = frame::set_up(sheet, &mut tw, &mut lw);
-    let k = u.refusal;
-    if k != 0 {
-        refused(k, newline);
-        return;
-    }
+// The lines for a sheet that is not refused, with the link words in lw. What depends on the sheet alone is computed once, before the first naming.
+fn report_in(sheet: &[u8], u: Setup, newline: &[u8], lw: &mut [u64])
+    requires { ⌜ SetUp (now sheet) u ⌝ }
+    requires { ⌜ (u .refusal ≡ 0) × (u .links ≤ length (now lw)) ⌝ }
+{
     let members = u.members;
-    let count = u.count;
     let lean = u.lean;
-    let width = u.width;
+    let everywhere = u.everywhere;
     let named = u.named;
-    let names = u.names;
     let unnamed = u.unnamed;
-    let others = u.others;
-    let base = u.base;
+    let mut tw = [0u64; 256];
+    let mut base = [0u64; 4];
+    frame::fill(
+        &members[..u.count],
+        &lean[..u.width],
+        u.words,
+        &everywhere[..u.globals],
+        &mut tw,
+        lw,
+        &mut base,
+    );
     let mut out = [0u8; 8192];
     let n = put(&mut out, 0, b"naming start left rounds");
     let n = put(&mut out, n, newline);
     rows(
-        &members[..count],
-        &lean[..width],
+        &members[..u.count],
+        &lean[..u.width],
         u.words,
         &tw,
-        &lw,
-        &named[..names],
-        &unnamed[..others],
+        lw,
+        &named[..u.names],
+        &unnamed[..u.others],
         &base,
         u.goal,
         u.namings,
@@ -161,4 +165,32 @@ pub fn report(sheet: &[u8], newline: &[u8]) {
         n,
         newline,
     );
+}
+
+// What the program prints of a sheet, each line ended by `newline`. The store of link words is lent by their number.
+pub fn report(sheet: &[u8], newline: &[u8]) {
+    let u = frame::set_up(sheet);
+    let k = u.refusal;
+    if k != 0 {
+        refused(k, newline);
+        return;
+    }
+    let n = u.links;
+    if n <= 528 {
+        let mut lw = [0u64; 528];
+        report_in(sheet, u, newline, &mut lw);
+        return;
+    }
+    if n <= 2064 {
+        let mut lw = [0u64; 2064];
+        report_in(sheet, u, newline, &mut lw);
+        return;
+    }
+    if n <= 4112 {
+        let mut lw = [0u64; 4112];
+        report_in(sheet, u, newline, &mut lw);
+        return;
+    }
+    let mut lw = [0u64; 16400];
+    report_in(sheet, u, newline, &mut lw);
 }

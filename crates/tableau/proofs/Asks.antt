@@ -3,8 +3,8 @@ use mathlib.Core.Path.{_≡_, refl, sym, ap, ap₂, _∙_}
 use mathlib.Core.Bool.{and-true, and-assoc, or-false, and-comm, true≢false, Bool, true, false, not, _&&_, _||_}
 use mathlib.Core.List.{List}
 use mathlib.Core.Logic.{_⊎_, inl, inr}
-use Prim.Native.Nat.{ℕ, _+_, _*_, _^_, _<_}
-use lib.Dec.{T}
+use Prim.Native.Nat.{ℕ, _*_, _^_, _<_}
+use lib.Dec.{T, eqb}
 use lib.ListN.{length, getD}
 use Rattle.ctl.specs.Elimination as E
 use Rattle.ctl.specs.Lists as L
@@ -16,19 +16,33 @@ use Rattle.ctl.specs.Equality.{tag}
 use Rattle.ctl.specs.Formula.{Form, tru, fls, lit, nlit, and, or, ex, ax, eu, au, er, ar}
 use Rattle.ctl.specs.Lists.{imp}
 use Rattle.ctl.specs.Modes.{hasMode, modes, single}
-use Rattle.wordset.proofs.BelowLaws.{same-or, all-elim, all-intro, any-ext}
+use Rattle.wordset.proofs.BelowLaws.{same-or, all-elim, all-intro, any-ext, any-intro}
 use Rattle.wordset.specs.Below.{all, any}
 use Rattle.wordset.specs.Words.{member}
 use Rattle.closure.specs.Members.{formBy, forms}
 use Rattle.tableau.specs.Tables.{argAt, form, leftAt, rightAt, tagAt}
 use Rattle.tableau.specs.Blocks.{has}
 use Rattle.tableau.specs.Truths.{Tr, trueAt}
-use Rattle.tableau.specs.Links.{Lk, meets}
+use Rattle.tableau.specs.Links.{Lk, asked, asksBy, meets, rowsOf}
 use Rattle.tableau.specs.Families.{Follows, Linked, Next, Ready, listOf, passes}
 use Rattle.tableau.proofs.TestLaws.{to-or}
 use Rattle.tableau.proofs.ListWords.{any-listed, list-in, list-out, some-below, some-in}
 use Rattle.tableau.proofs.MemberLaws.{all-forms, form-tag, tag-of}
+use Rattle.tableau.proofs.ModeLaws.{own-mode}
 use Rattle.tableau.proofs.TruthLaws.{truth-bit}
+
+-- ---- the modes of an EX or of an EU are asked for
+
+module _ (ms : List ℕ) (i m b : ℕ) (h : i < length ms) (eb : b ≡ argAt ms i) where
+  asked-by : (eqb (tagAt ms i) 6 || eqb (tagAt ms i) 8) ≡ true → hasMode b m ≡ true → asked ms m ≡ true
+  unfolding asked asksBy
+  asked-by g k = any-intro (λ j. asksBy (getD ms j 0) m) (length ms) i h (ap₂ _&&_ g (ap (λ (x : ℕ). hasMode x m) (sym eb) ∙ k))
+
+  pub asked-ex : tagAt ms i ≡ 6 → b ≡ 2 ^ m → asked ms m ≡ true
+  asked-ex e q = asked-by (ap (λ (x : ℕ). eqb x 6 || eqb x 8) e) (ap (λ (x : ℕ). hasMode x m) q ∙ own-mode m)
+
+  pub asked-eu : tagAt ms i ≡ 8 → hasMode b m ≡ true → asked ms m ≡ true
+  asked-eu e k = asked-by (ap (λ (x : ℕ). eqb x 6 || eqb x 8) e) k
 
 -- ---- links
 
@@ -63,34 +77,37 @@ module _ (ms ln : List ℕ) where
 
 module _ {ms ln : List ℕ} {w : ℕ} {tw lw : List ℕ} (r : Ready ms ln w tw lw) where
   -- EX over one mode
-  pub meets-next : (us : List ℕ) (t m p a : ℕ) → t < w * 64 → m < 16 → p < length ms → a ≡ 2 ^ m → meets w lw m (λ c. member us c && has w tw p c) t ≡ Next ms ln (listOf w us) a (form ms p) t
+  pub meets-next : (us rows : List ℕ) (t m p a : ℕ) → rows ≡ rowsOf lw m → t < w * 64 → m < 16 → asked ms m ≡ true → p < length ms → a ≡ 2 ^ m
+      → meets w rows (λ c. member us c && has w tw p c) t ≡ Next ms ln (listOf w us) a (form ms p) t
   unfolding meets E.next
-  meets-next us t m p a h k l e =
-      any-ext (λ j. has w lw (t * 16 + m) j && (member us j && has w tw p j)) (λ j. member us j && (trueAt ms ln p j && Linked ms ln a t j)) (w * 64)
-      (λ j i. ap₂ _&&_ (r .rows .rows t m j h k i ∙ sym (linked-one ms ln a m k e t j)) (ap (λ x. member us j && x) (truth-bit (r .truths) p l j i))
+  meets-next us rows t m p a q h k o l e =
+      ap (λ rs. any (w * 64) (λ j. has w rs t j && (member us j && has w tw p j))) q
+      ∙ any-ext (λ j. has w (rowsOf lw m) t j && (member us j && has w tw p j)) (λ j. member us j && (trueAt ms ln p j && Linked ms ln a t j)) (w * 64)
+      (λ j i. ap₂ _&&_ (r .rows .rows m k o t j h i ∙ sym (linked-one ms ln a m k e t j)) (ap (λ x. member us j && x) (truth-bit (r .truths) p l j i))
       ∙ and-comm (Linked ms ln a t j) (member us j && trueAt ms ln p j) ∙ and-assoc (member us j) (trueAt ms ln p j) (Linked ms ln a t j))
       ∙ any-listed w us (λ j. trueAt ms ln p j && Linked ms ln a t j)
 
   -- one of several modes
   abbrev pub StepsBy : List ℕ → ℕ → ℕ → ℕ → Bool
-  StepsBy us a t m = hasMode a m && meets w lw m (member us) t
+  StepsBy us a t m = hasMode a m && meets w (rowsOf lw m) (member us) t
 
-  pub steps-is : (us : List ℕ) (t a : ℕ) → t < w * 64 → any 16 (StepsBy us a t) ≡ L.any (Linked ms ln a t) (listOf w us)
+  pub steps-is : (us : List ℕ) (t a : ℕ) → t < w * 64 → ((m : ℕ) → hasMode a m ≡ true → asked ms m ≡ true) → any 16 (StepsBy us a t) ≡ L.any (Linked ms ln a t) (listOf w us)
   unfolding linked meets
-  steps-is us t a h =
+  steps-is us t a h f =
       both-ways _ _
       (λ s. (let x = some-below 16 (StepsBy us a t) s in
-      let y = some-below (w * 64) (λ j. has w lw (t * 16 + x .0) j && member us j) (and-1 (hasMode a (x .0)) _ (x .2)) in
-      any-in (λ u. L.any (λ m. Lk ms ln m t u) (modes a)) (list-in w us (y .1) (and-1 (has w lw (t * 16 + x .0) (y .0)) (member us (y .0)) (y .2)))
-      (any-in (λ m. Lk ms ln m t (y .0)) (modes-has a (x .0) (x .1) (and-0 (hasMode a (x .0)) _ (x .2)))
-      (T-cast (r .rows .rows t (x .0) (y .0) h (x .1) (y .1)) (and-0 (has w lw (t * 16 + x .0) (y .0)) (member us (y .0)) (y .2))))))
+      let o = and-0 (hasMode a (x .0)) _ (x .2) in
+      let y = some-below (w * 64) (λ j. has w (rowsOf lw (x .0)) t j && member us j) (and-1 (hasMode a (x .0)) _ (x .2)) in
+      any-in (λ u. L.any (λ m. Lk ms ln m t u) (modes a)) (list-in w us (y .1) (and-1 (has w (rowsOf lw (x .0)) t (y .0)) (member us (y .0)) (y .2)))
+      (any-in (λ m. Lk ms ln m t (y .0)) (modes-has a (x .0) (x .1) o)
+      (T-cast (r .rows .rows (x .0) (x .1) (f (x .0) (true-T _ o)) t (y .0) h (y .1)) (and-0 (has w (rowsOf lw (x .0)) t (y .0)) (member us (y .0)) (y .2))))))
       (λ s. (let y = any-out (λ u. L.any (λ m. Lk ms ln m t u) (modes a)) (listOf w us) s in
       let x = any-out (λ m. Lk ms ln m t (y .0)) (modes a) (y .2) in
       let i = modes-in a (x .1) in
       let k = list-out w us (y .1) in
       some-in 16 (StepsBy us a t) (x .0) (mode-lt (i .0)) (and-in (hasMode a (x .0)) _ (i .1)
-      (some-in (w * 64) (λ j. has w lw (t * 16 + x .0) j && member us j) (y .0) (k .0)
-      (and-in (has w lw (t * 16 + x .0) (y .0)) (member us (y .0)) (T-cast⁻ (r .rows .rows t (x .0) (y .0) h (mode-lt (i .0)) (k .0)) (x .2)) (k .1))))))
+      (some-in (w * 64) (λ j. has w (rowsOf lw (x .0)) t j && member us j) (y .0) (k .0)
+      (and-in (has w (rowsOf lw (x .0)) t (y .0)) (member us (y .0)) (T-cast⁻ (r .rows .rows (x .0) (mode-lt (i .0)) (f (x .0) (true-T _ (i .1))) t (y .0) h (k .0)) (x .2)) (k .1))))))
 
   -- ---- an EX that is to follow
 

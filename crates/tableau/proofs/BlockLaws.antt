@@ -99,9 +99,6 @@ module _ {P : ℕ → ℕ → Bool} {w n : ℕ} {d : List ℕ} where
       go j (inl q) o p = subst (λ (z : ℕ). Answers (P z) o (getD ws (z * w + o) 0)) (sym q) (f .part o (omega arith))
       go j (inr m) o p = f .done j m o p
 
-  pub fill-has : {ws : List ℕ} {i k : ℕ} → Filled P w n d ws i k → (j : ℕ) → j < i → (t : ℕ) → t < w * 64 → has w ws j t ≡ P j t
-  fill-has {ws} f j h t l = block-has (P j) w ws j (f .done j h) t l
-
 -- the same store measured from another one of its length
 pub fill-from : {P : ℕ → ℕ → Bool} {w n : ℕ} {d e ws : List ℕ} {i k : ℕ} → Filled P w n d ws i k → length d ≡ length e → Filled P w n e ws i k
 fill-from f q = let l = f .long in let r = f .room in record { long = f .long ∙ q; room = omega arith; within = f .within; inner = f .inner; done = f .done; part = f .part }
@@ -120,3 +117,6 @@ slot w j n k len h r l = let b = block-in w j n h in omega arith
 -- a part that goes to the end
 pub tail : (n : ℕ) (l : List ℕ) → take (length l - n) (drop n l) ≡ drop n l
 tail n l = take-all (length l - n) (drop n l) (omega (arith, length-drop n l))
+
+pub tail-room : (n k : ℕ) (l : List ℕ) → n + k ≤ length l → k ≤ length (take (length l - n) (drop n l))
+tail-room n k l h = let e : length (take (length l - n) (drop n l)) ≡ length l - n = ap length (tail n l) ∙ length-drop n l in omega arith

@@ -7,9 +7,12 @@ pub mod ModeLaws
 pub mod PlaceWords
 pub mod TruthLaws
 pub mod TruthWords
+pub mod Sifting
+pub mod Narrowing
+pub mod AskedModes
+pub mod RowPlaces
 pub mod LinkWords
 pub mod Asks
-pub mod Sifting
 pub mod Stepping
 pub mod Spreading
 pub mod Rounding

@@ -1,59 +1,32 @@
--- What members ask of links, by words. Assumes nothing.
+-- What members ask of links, and rows that are narrowed by it. Assumes nothing.
 use mathlib.Core.Path.{_≡_, refl, sym, ap, ap₂, _∙_}
 use mathlib.Core.Bool.{and-false, and-comm, or-comm, Bool, true, false, not, _&&_, cond, _||_}
 use mathlib.Core.List.{List}
-use Prim.Native.Nat.{ℕ, _+_, _-_, _*_, _/_, _%_, _^_, _≤_, _<_}
-use native.Mathlib.Nat.{add-comm}
+use Prim.Native.Nat.{ℕ, _+_, _-_, _*_, _%_, _^_, _≤_, _<_}
+use native.Mathlib.Nat.{add-comm, mul-le-mul-right}
+use native.Mathlib.Numerals.{add-one}
 use native.Mathlib.Omega.{arith}
-use lib.Bits.{bitAnd, bitOr}
-use lib.Dec.{eqb, ltb}
-use lib.ListN.{length}
-use borrow.Author.Tests.{lt-ltb, le-ltb, eqb-true, eqb-false}
+use lib.Dec.{eqb, leb, ltb}
+use lib.ListN.{length, getD}
+use borrow.Author.Tests.{le-ltb, lt-ltb, ltb-true, ltb-false}
 use Rattle.ctl.specs.Equality.{tag}
 use Rattle.ctl.specs.Formula.{Form, tru, fls, lit, nlit, and, or, ex, ax, eu, au, er, ar}
 use Rattle.ctl.specs.Links.{link, linkBy, linkRule}
 use Rattle.ctl.specs.Lists.{imp}
 use Rattle.ctl.specs.Modes.{hasMode}
 use Rattle.wordset.proofs.BitLaws.{shl-one}
+use Rattle.wordset.proofs.BelowLaws.{count-le}
 use Rattle.wordset.specs.Below.{all}
 use Rattle.closure.specs.Members.{forms}
-use Rattle.wordset.proofs.AnswersLaws.{and-answers, or-answers}
 use Rattle.tableau.specs.Tables.{Table, argAt, form, leanForms, leftAt, rightAt, tagAt}
-use Rattle.wordset.specs.Answers.{Answers}
 use Rattle.tableau.specs.Blocks.{has}
 use Rattle.tableau.specs.Truths.{Tr, Truths, trueAt}
-use Rattle.tableau.specs.Links.{Lk, Rows, linkBack, ruleBy, sideRule}
-use Rattle.tableau.proofs.TestLaws.{to-not, to-or, to-true}
+use Rattle.tableau.specs.Links.{Lk, Narrowed, asked, keeps, linkBack, linkRoom, ruleBy, selects, sideRule}
+use Rattle.tableau.specs.declared.links.Rule.{Rule}
+use Rattle.tableau.specs.declared.links.Rule.the-variants.{Forward, Backward, BothWays}
 use Rattle.tableau.proofs.MemberLaws.{all-forms, form-tag, tag-of}
-use Rattle.tableau.proofs.BlockLaws.{Filled, fill-has, word-as, word-full, word-not}
+use Rattle.tableau.proofs.Narrowing.{Narrowing, full-has, narrowed-as, narrowed-none, narrowed-on}
 use Rattle.tableau.proofs.TruthLaws.{truth-bit}
-
--- ---- one side: what a member with a body asks, by whether it is on, its direction, and its truth in the one type
-
-module _ (on back it pt : Bool) (Q R : ℕ → Bool) (k : ℕ) where
-  pub side-off : on ≡ false → Answers (λ u. sideRule on back it pt (Q u) (R u)) k 18446744073709551615
-  unfolding sideRule
-  side-off e = word-as (λ u. sym (ap (λ s. imp s (cond back (imp (Q u) pt) (imp it (R u)))) e)) word-full
-
-  side : on ≡ true → {b : Bool} → back ≡ b → (u : ℕ) → sideRule on back it pt (Q u) (R u) ≡ cond b (imp (Q u) pt) (imp it (R u))
-  unfolding sideRule
-  side e f u = ap₂ (λ s b. imp s (cond b (imp (Q u) pt) (imp it (R u)))) e f
-
-  pub side-back-all : on ≡ true → back ≡ true → pt ≡ true → Answers (λ u. sideRule on back it pt (Q u) (R u)) k 18446744073709551615
-  side-back-all e f g = word-as (λ u. sym (side e f u ∙ ap (imp (Q u)) g ∙ to-true (Q u))) word-full
-
-  pub side-back : (x : ℕ) → on ≡ true → back ≡ true → pt ≡ false → Answers Q k x → Answers (λ u. sideRule on back it pt (Q u) (R u)) k ((2 ^ 64 - 1) - x)
-  side-back x e f g q = word-as (λ u. sym (side e f u ∙ ap (imp (Q u)) g ∙ to-not (Q u))) (word-not q)
-
-  pub side-on : (x : ℕ) → on ≡ true → back ≡ false → it ≡ true → Answers R k x → Answers (λ u. sideRule on back it pt (Q u) (R u)) k x
-  side-on x e f g r = word-as (λ u. sym (side e f u ∙ ap (λ b. imp b (R u)) g)) r
-
-  pub side-none : on ≡ true → back ≡ false → it ≡ false → Answers (λ u. sideRule on back it pt (Q u) (R u)) k 18446744073709551615
-  side-none e f g = word-as (λ u. sym (side e f u ∙ ap (λ b. imp b (R u)) g)) word-full
-
--- a test of a block is truth
-pub known : {ms ln : List ℕ} {w : ℕ} {tw : List ℕ} → Truths ms ln w tw → {r b : Bool} {i t : ℕ} → i < length ms → t < w * 64 → r ≡ has w tw i t → r ≡ b → trueAt ms ln i t ≡ b
-known f {r} {b} {i} {t} h l e q = sym (truth-bit f i h t l) ∙ sym e ∙ q
 
 -- ---- the rules by tags
 
@@ -138,60 +111,103 @@ module _ {ms : List ℕ} (ln : List ℕ) (t : Table ms) (i : ℕ) (h : i < lengt
       none : (s u : ℕ) → linkRule (leanForms ms ln) f s u (form ms i) ≡ true
       none s u = let q = sym (tag-of t i h) in rule-none (leanForms ms ln) f s u (form ms i) (λ e. a (q ∙ e)) (λ e. b (q ∙ e)) (λ e. c (q ∙ e))
 
--- ---- an AU both ways
+-- ---- one side: what a member with a body asks, where the member is true in the types that pass I, and the body in those that pass P
 
-module _ {ms : List ℕ} (ln : List ℕ) (t : Table ms) (i : ℕ) (h : i < length ms) (f : ℕ) (back : Bool) (s k : ℕ) (e : tagAt ms i ≡ 9) where
-  -- what it asks, by its modes a and its right operand q
-  abbrev asks : ℕ → ℕ → ℕ → Bool
-  asks a q u = imp (hasMode a f && hasMode a (f + 8)) (imp (trueAt ms ln i s && trueAt ms ln i u) (trueAt ms ln q s || trueAt ms ln q u))
+abbrev pub sideTest : Bool → Bool → (ℕ → Bool) → (ℕ → Bool) → ℕ → ℕ → Bool
+sideTest on back I P t u = sideRule on back (I t) (P t) (I u) (P u)
 
-  asks-is : (a q u : ℕ) → a ≡ argAt ms i → q ≡ rightAt ms i → asks a q u ≡ ruleBy ms ln f back s u i
-  asks-is a q u ea eq =
-      ap₂ (λ b p. asks b p u) ea eq
-      ∙ ap (λ m. imp (hasMode (argAt ms i) f && hasMode (argAt ms i) m) (imp (trueAt ms ln i s && trueAt ms ln i u) (trueAt ms ln (rightAt ms i) s || trueAt ms ln (rightAt ms i) u))) (add-comm f 8)
-      ∙ rule-au ln t i h f back s u e
+abbrev pub ruleTest : Rule → (ℕ → Bool) → (ℕ → Bool) → ℕ → ℕ → Bool
+ruleTest rule I P t u = imp (selects rule (I t) (P t)) (keeps rule (I u) (P u))
 
-  none : (a q : ℕ) → a ≡ argAt ms i → q ≡ rightAt ms i → ((u : ℕ) → asks a q u ≡ true) → Answers (λ u. ruleBy ms ln f back s u i) k 18446744073709551615
-  none a q ea eq g = word-as (λ u. sym (g u) ∙ asks-is a q u ea eq) word-full
+module _ (on back : Bool) (I P : ℕ → Bool) where
+  side : {o b : Bool} → on ≡ o → back ≡ b → (t u : ℕ) → sideTest on back I P t u ≡ imp o (cond b (imp (I u) (P t)) (imp (I t) (P u)))
+  unfolding sideRule
+  side e f t u = ap₂ (λ s b. imp s (cond b (imp (I u) (P t)) (imp (I t) (P u)))) e f
 
-  pub au-mode : (a : ℕ) → a ≡ argAt ms i → hasMode a f ≡ false → Answers (λ u. ruleBy ms ln f back s u i) k 18446744073709551615
-  au-mode a ea m = none a (rightAt ms i) ea refl (λ u. rw m)
+  pub side-off : {w : ℕ} {d : List ℕ} → on ≡ false → Narrowed w d d (sideTest on back I P)
+  side-off e = narrowed-none (λ t u h k. side e refl t u)
 
-  pub au-mode-back : (a : ℕ) → a ≡ argAt ms i → hasMode a (f + 8) ≡ false → Answers (λ u. ruleBy ms ln f back s u i) k 18446744073709551615
-  au-mode-back a ea m = none a (rightAt ms i) ea refl (λ u. rw (m, and-false (hasMode a f)))
-
-  pub au-false : trueAt ms ln i s ≡ false → Answers (λ u. ruleBy ms ln f back s u i) k 18446744073709551615
-  au-false m = none (argAt ms i) (rightAt ms i) refl refl (λ u. rw (m, to-true))
-
-  pub au-right : (q : ℕ) → q ≡ rightAt ms i → trueAt ms ln q s ≡ true → Answers (λ u. ruleBy ms ln f back s u i) k 18446744073709551615
-  au-right q eq m = none (argAt ms i) q refl eq (λ u. rw (m, to-true, to-true))
-
-  pub au-both : (a q x y : ℕ) → a ≡ argAt ms i → q ≡ rightAt ms i → hasMode a f ≡ true → hasMode a (f + 8) ≡ true → trueAt ms ln i s ≡ true → trueAt ms ln q s ≡ false
-      → Answers (trueAt ms ln i) k x → Answers (trueAt ms ln q) k y → Answers (λ u. ruleBy ms ln f back s u i) k (bitOr ((2 ^ 64 - 1) - x) y)
-  au-both a q x y ea eq m n p r wx wy = word-as (λ u. sym (go u) ∙ asks-is a q u ea eq) (or-answers (word-not wx) wy)
+  pub side-back : {w : ℕ} {d rows : List ℕ} → on ≡ true → back ≡ true → Narrowed w d rows (ruleTest Backward I P) → Narrowed w d rows (sideTest on back I P)
+  unfolding selects keeps
+  side-back e f n = narrowed-as n (λ t u h k. contra (I u) (P t) ∙ sym (side e f t u))
     where
-      go : (u : ℕ) → asks a q u ≡ (not (trueAt ms ln i u) || trueAt ms ln q u)
-      go u = rw (m, n, p, r) (to-or (trueAt ms ln i u) (trueAt ms ln q u))
+      contra : (a b : Bool) → imp (not b) (not a) ≡ imp a b
+      contra true true = refl
+      contra true false = refl
+      contra false true = refl
+      contra false false = refl
 
--- ---- the rules' words
+  pub side-on : {w : ℕ} {d rows : List ℕ} → on ≡ true → back ≡ false → Narrowed w d rows (ruleTest Forward I P) → Narrowed w d rows (sideTest on back I P)
+  unfolding selects keeps
+  side-on e f n = narrowed-as n (λ t u h k. sym (side e f t u))
 
-module _ {ms : List ℕ} (ln : List ℕ) (t : Table ms) (i : ℕ) (h : i < length ms) (f : ℕ) (fl : f < 8) (back : Bool) (s k : ℕ) where
-  -- the rule of a member with the body p
-  abbrev body : Bool → Bool → ℕ → ℕ → Bool
-  body on back p u = sideRule on back (trueAt ms ln i s) (trueAt ms ln p s) (trueAt ms ln i u) (trueAt ms ln p u)
+-- ---- a member narrows rows by what it asks, where the truth words are those of the table
 
-  pub ex-word : (a p x : ℕ) → a ≡ argAt ms i → p ≡ leftAt ms i → tagAt ms i ≡ 6 → Answers (body (eqb a ((1 * 2 ^ f) % 2 ^ 64)) back p) k x → Answers (λ u. ruleBy ms ln f back s u i) k x
-  ex-word a p x ea ep e w = word-as (λ u. ap₂ (λ b q. body b back q u) (ap₂ eqb ea (shl-one f (omega arith))) ep ∙ rule-ex ln t i h f back s u e) w
+-- the operands of a member are members
+pub left-in : {ms : List ℕ} → Table ms → {i p : ℕ} → i < length ms → 4 ≤ tagAt ms i → p ≡ leftAt ms i → p < length ms
+left-in t {i} h g e = let o = t .operands i h g .0 in omega arith
 
-  pub ax-word : (a p x y : ℕ) → a ≡ argAt ms i → p ≡ leftAt ms i → tagAt ms i ≡ 7 → Answers (body (eqb a ((1 * 2 ^ f) % 2 ^ 64)) back p) k x
-      → Answers (body (eqb a ((1 * 2 ^ (f + 8)) % 2 ^ 64)) (not back) p) k y → Answers (λ u. ruleBy ms ln f back s u i) k (bitAnd x y)
-  ax-word a p x y ea ep e w v =
-      word-as (λ u. ap₂ _&&_ (ap₂ (λ b q. body b back q u) (ap₂ eqb ea (shl-one f (omega arith))) ep)
-      (ap₂ (λ b q. body b (not back) q u) (ap₂ eqb ea (shl-one (f + 8) (omega arith) ∙ ap (λ z. 2 ^ z) (add-comm f 8))) ep) ∙ rule-ax ln t i h f back s u e)
-      (and-answers w v)
+pub right-in : {ms : List ℕ} → Table ms → {i p : ℕ} → i < length ms → 4 ≤ tagAt ms i → p ≡ rightAt ms i → p < length ms
+right-in t {i} h g e = let o = t .operands i h g .1 in omega arith
 
-  pub other-word : (tagAt ms i ≡ 6 → ⊥) → (tagAt ms i ≡ 7 → ⊥) → (tagAt ms i ≡ 9 → ⊥) → Answers (λ u. ruleBy ms ln f back s u i) k 18446744073709551615
-  other-word a b c = word-as (λ u. rule-other ln t i h f back s u a b c) word-full
+-- a test of blocks is one of truth
+four : (F : Bool → Bool → Bool → Bool → Bool) {a a′ b b′ c c′ d d′ : Bool} → a ≡ a′ → b ≡ b′ → c ≡ c′ → d ≡ d′ → F a b c d ≡ F a′ b′ c′ d′
+four F {a} {a′} {b} {b′} {c} {c′} {d} {d′} p q r s = ap₂ (λ x y. F x y c d) p q ∙ ap₂ (F a′ b′) r s
+
+known : {ms ln : List ℕ} {w : ℕ} {tw : List ℕ} → Truths ms ln w tw → (F : Bool → Bool → Bool → Bool → Bool) (i p t u : ℕ) → i < length ms → p < length ms → t < w * 64 → u < w * 64
+    → F (has w tw i t) (has w tw p t) (has w tw i u) (has w tw p u) ≡ F (trueAt ms ln i t) (trueAt ms ln p t) (trueAt ms ln i u) (trueAt ms ln p u)
+known r F i p t u h l a b = four F (truth-bit r i h t a) (truth-bit r p l t a) (truth-bit r i h u b) (truth-bit r p l u b)
+
+module _ {ms : List ℕ} (ln : List ℕ) (t : Table ms) (i : ℕ) (h : i < length ms) (f : ℕ) (back : Bool) {w : ℕ} {tw : List ℕ} (r : Truths ms ln w tw) where
+  -- an AU both ways, by its modes a and its right operand q
+  module _ (e : tagAt ms i ≡ 9) where
+    asks-is : (a q s u : ℕ) → a ≡ argAt ms i → q ≡ rightAt ms i
+        → imp (hasMode a f && hasMode a (f + 8)) (imp (trueAt ms ln i s && trueAt ms ln i u) (trueAt ms ln q s || trueAt ms ln q u)) ≡ ruleBy ms ln f back s u i
+    asks-is a q s u ea eq =
+        ap₂ (λ b p. imp (hasMode b f && hasMode b (f + 8)) (imp (trueAt ms ln i s && trueAt ms ln i u) (trueAt ms ln p s || trueAt ms ln p u))) ea eq
+        ∙ ap (λ m. imp (hasMode (argAt ms i) f && hasMode (argAt ms i) m) (imp (trueAt ms ln i s && trueAt ms ln i u) (trueAt ms ln (rightAt ms i) s || trueAt ms ln (rightAt ms i) u))) (add-comm f 8)
+        ∙ rule-au ln t i h f back s u e
+
+    pub both-off : {d : List ℕ} (a : ℕ) → a ≡ argAt ms i → hasMode a f ≡ false → Narrowed w d d (λ s u. ruleBy ms ln f back s u i)
+    both-off a ea m = narrowed-none (λ s u k l. sym (asks-is a (rightAt ms i) s u ea refl) ∙ rw m)
+
+    pub both-off-back : {d : List ℕ} (a : ℕ) → a ≡ argAt ms i → hasMode a (f + 8) ≡ false → Narrowed w d d (λ s u. ruleBy ms ln f back s u i)
+    both-off-back a ea m = narrowed-none (λ s u k l. sym (asks-is a (rightAt ms i) s u ea refl) ∙ rw (m, and-false (hasMode a f)))
+
+    pub both-on : {d rows : List ℕ} (a q : ℕ) → a ≡ argAt ms i → q ≡ rightAt ms i → hasMode a f ≡ true → hasMode a (f + 8) ≡ true
+        → Narrowed w d rows (ruleTest BothWays (has w tw i) (has w tw q)) → Narrowed w d rows (λ s u. ruleBy ms ln f back s u i)
+    unfolding selects keeps
+    both-on a q ea eq m n v =
+        narrowed-as v (λ s u k l. known r (λ x y z o. imp (x && not y) (not z || o)) i q s u h (right-in t h (omega arith) eq) k l
+        ∙ both (trueAt ms ln i s) (trueAt ms ln q s) (trueAt ms ln i u) (trueAt ms ln q u)
+        ∙ sym (ap₂ (λ x y. imp (x && y) (imp (trueAt ms ln i s && trueAt ms ln i u) (trueAt ms ln q s || trueAt ms ln q u))) m n) ∙ asks-is a q s u ea eq)
+      where
+        both : (it qt iu qu : Bool) → imp (it && not qt) (not iu || qu) ≡ imp (it && iu) (qt || qu)
+        both false qt iu qu = refl
+        both true true true qu = refl
+        both true true false qu = refl
+        both true false true qu = refl
+        both true false false qu = refl
+
+  pub ex-on : {d rows : List ℕ} (a p : ℕ) → f < 8 → a ≡ argAt ms i → p ≡ leftAt ms i → tagAt ms i ≡ 6
+      → Narrowed w d rows (sideTest (eqb a ((1 * 2 ^ f) % 2 ^ 64)) back (has w tw i) (has w tw p)) → Narrowed w d rows (λ s u. ruleBy ms ln f back s u i)
+  ex-on a p fl ea ep e v =
+      narrowed-as v (λ s u k l. known r (sideRule (eqb a ((1 * 2 ^ f) % 2 ^ 64)) back) i p s u h (left-in t h (omega arith) ep) k l
+      ∙ ap₂ (λ b q. sideTest b back (trueAt ms ln i) (trueAt ms ln q) s u) (ap₂ eqb ea (shl-one f (omega arith))) ep ∙ rule-ex ln t i h f back s u e)
+
+  pub ax-on : {d mid rows : List ℕ} (a p : ℕ) → f < 8 → a ≡ argAt ms i → p ≡ leftAt ms i → tagAt ms i ≡ 7
+      → Narrowed w d mid (sideTest (eqb a ((1 * 2 ^ f) % 2 ^ 64)) back (has w tw i) (has w tw p))
+      → Narrowed w mid rows (sideTest (eqb a ((1 * 2 ^ (f + 8)) % 2 ^ 64)) (not back) (has w tw i) (has w tw p)) → Narrowed w d rows (λ s u. ruleBy ms ln f back s u i)
+  ax-on a p fl ea ep e v n =
+      narrowed-on v n (λ s u k l. ap₂ _&&_
+      (known r (sideRule (eqb a ((1 * 2 ^ f) % 2 ^ 64)) back) i p s u h (left-in t h (omega arith) ep) k l
+      ∙ ap₂ (λ b q. sideTest b back (trueAt ms ln i) (trueAt ms ln q) s u) (ap₂ eqb ea (shl-one f (omega arith))) ep)
+      (known r (sideRule (eqb a ((1 * 2 ^ (f + 8)) % 2 ^ 64)) (not back)) i p s u h (left-in t h (omega arith) ep) k l
+      ∙ ap₂ (λ b q. sideTest b (not back) (trueAt ms ln i) (trueAt ms ln q) s u) (ap₂ eqb ea (shl-one (f + 8) (omega arith) ∙ ap (λ z. 2 ^ z) (add-comm f 8))) ep)
+      ∙ rule-ax ln t i h f back s u e)
+
+  pub other-on : {d : List ℕ} → (tagAt ms i ≡ 6 → ⊥) → (tagAt ms i ≡ 7 → ⊥) → (tagAt ms i ≡ 9 → ⊥) → Narrowed w d d (λ s u. ruleBy ms ln f back s u i)
+  other-on a b c = narrowed-none (λ s u k l. sym (rule-other ln t i h f back s u a b c))
 
 -- ---- all members
 
@@ -200,28 +216,54 @@ unfolding ruleBy linkBack link
 all-rules ms ln f true t u = all-forms ms (linkRule (leanForms ms ln) f u t)
 all-rules ms ln f false t u = all-forms ms (linkRule (leanForms ms ln) f t u)
 
+-- ---- the loop over the members: of full rows, those links are left that the first i members allow
+
+module _ (ms ln : List ℕ) (f : ℕ) (back : Bool) {w : ℕ} {d : List ℕ} where
+  pub members-start : Narrowing w (length ms) d d (λ t u. all 0 (λ j. ruleBy ms ln f back t u j)) 0
+  unfolding all
+  members-start = record { within = omega arith; long = refl; is = narrowed-none (λ t u h k. refl) }
+
+  pub members-on : {rows rows′ : List ℕ} {i : ℕ} → Narrowing w (length ms) d rows (λ t u. all i (λ j. ruleBy ms ln f back t u j)) i → i < length ms → length rows′ ≡ length rows
+      → Narrowed w rows rows′ (λ t u. ruleBy ms ln f back t u i) → Narrowing w (length ms) d rows′ (λ t u. all (i + 1) (λ j. ruleBy ms ln f back t u j)) (i + 1)
+  unfolding all
+  members-on {rows} {rows′} {i} s h l n = record {
+    within = omega arith;
+    long = l ∙ s .long;
+    is = narrowed-on (s .is) n (λ t u p q. ap (λ m. all m (λ j. ruleBy ms ln f back t u j)) (sym (add-one i)));
+  }
+
+  pub members-end : {rows : List ℕ} {i : ℕ} → Narrowing w (length ms) d rows (λ t u. all i (λ j. ruleBy ms ln f back t u j)) i → length ms ≤ i
+      → ((q : ℕ) → q < w * 64 * w → getD d q 0 ≡ 18446744073709551615) → (t u : ℕ) → t < w * 64 → u < w * 64 → has w rows t u ≡ linkBack ms ln f back t u
+  members-end {rows} {i} s h full t u p q =
+      let k = s .within in
+      let e : i ≡ length ms = omega arith in
+      s .is .is t u p q ∙ ap₂ _&&_ (full-has w d full t u p q) (ap (λ m. all m (λ j. ruleBy ms ln f back t u j)) e ∙ all-rules ms ln f back t u)
+
 -- ---- rows
 
-pub row-mode : (ms ln : List ℕ) (i t u : ℕ) → linkBack ms ln (i % 8) (eqb (i / 8 % 2) 1) t u ≡ Lk ms ln (i % 16) t u
+pub row-mode : (ms ln : List ℕ) (m : ℕ) → m < 16 → (t u : ℕ) → linkBack ms ln (m % 8) (leb 8 m) t u ≡ Lk ms ln m t u
 unfolding linkBack linkBy
-row-mode ms ln i t u = go (eqb (i / 8 % 2) 1) refl
+row-mode ms ln m h t u = go (ltb 7 m) refl
   where
-    go : (b : Bool) → eqb (i / 8 % 2) 1 ≡ b → cond b (link (forms ms) (leanForms ms ln) (i % 8) u t) (link (forms ms) (leanForms ms ln) (i % 8) t u)
-        ≡ (elim (ltb (i % 16) 8) [ true ↦ link (forms ms) (leanForms ms ln) (i % 16) t u | false ↦ link (forms ms) (leanForms ms ln) (i % 16 - 8) u t ])
+    go : (b : Bool) → ltb 7 m ≡ b → cond b (link (forms ms) (leanForms ms ln) (m % 8) u t) (link (forms ms) (leanForms ms ln) (m % 8) t u)
+        ≡ (elim (ltb m 8) [ true ↦ link (forms ms) (leanForms ms ln) m t u | false ↦ link (forms ms) (leanForms ms ln) (m - 8) u t ])
     go true e =
-        let q : i / 8 % 2 ≡ 1 = eqb-true _ _ e in
-        let r : i % 8 ≡ i % 16 - 8 = omega arith in
-        ap (λ m. link (forms ms) (leanForms ms ln) m u t) r
-        ∙ sym (ap (λ (b : Bool). elim b as (λ x. Bool) [ true ↦ link (forms ms) (leanForms ms ln) (i % 16) t u | false ↦ link (forms ms) (leanForms ms ln) (i % 16 - 8) u t ]) (le-ltb (i % 16) 8 (omega arith)))
+        let l = ltb-true 7 m e in
+        let q : m % 8 ≡ m - 8 = omega arith in
+        ap (λ k. link (forms ms) (leanForms ms ln) k u t) q
+        ∙ sym (ap (λ (b : Bool). elim b as (λ x. Bool) [ true ↦ link (forms ms) (leanForms ms ln) m t u | false ↦ link (forms ms) (leanForms ms ln) (m - 8) u t ]) (le-ltb m 8 (omega arith)))
     go false e =
-        let q : i / 8 % 2 ≡ 1 → ⊥ = eqb-false _ _ e in
-        let r : i % 8 ≡ i % 16 = omega arith in
-        ap (λ m. link (forms ms) (leanForms ms ln) m t u) r
-        ∙ sym (ap (λ (b : Bool). elim b as (λ x. Bool) [ true ↦ link (forms ms) (leanForms ms ln) (i % 16) t u | false ↦ link (forms ms) (leanForms ms ln) (i % 16 - 8) u t ]) (lt-ltb (i % 16) 8 (omega arith)))
+        let l = ltb-false 7 m e in
+        let q : m % 8 ≡ m = omega arith in
+        ap (λ k. link (forms ms) (leanForms ms ln) k t u) q
+        ∙ sym (ap (λ (b : Bool). elim b as (λ x. Bool) [ true ↦ link (forms ms) (leanForms ms ln) m t u | false ↦ link (forms ms) (leanForms ms ln) (m - 8) u t ]) (lt-ltb m 8 (omega arith)))
 
-pub rows-done : {ms ln : List ℕ} {w : ℕ} {d lw : List ℕ} {i k : ℕ} → Filled (λ j u. Lk ms ln (j % 16) (j / 16) u) w (w * 1024) d lw i k → w * 1024 ≤ i → Rows ms ln w lw
-rows-done {ms} {ln} {w} {d} {lw} {i} f h = record {
-  room = (let l = f .long in let r = f .room in omega arith);
-  rows = λ t m u a b c. (let p : (t * 16 + m) % 16 ≡ m = omega arith in let q : (t * 16 + m) / 16 ≡ t = omega arith in
-      fill-has f (t * 16 + m) (omega arith) u c ∙ ap₂ (λ x y. Lk ms ln x y u) p q);
-}
+-- ---- the room
+
+pub link-room-within : (ms : List ℕ) (w : ℕ) → w ≤ 4 → linkRoom ms w ≤ 16400
+unfolding linkRoom
+link-room-within ms w h =
+    let a = mul-le-mul-right w h in
+    let b : w * 64 * w ≤ 1024 = omega arith in
+    let q = mul-le-mul-right (w * 64 * w) (count-le (asked ms) 16) in
+    omega arith

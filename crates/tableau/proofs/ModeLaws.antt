@@ -18,7 +18,14 @@ use Rattle.wordset.specs.Below.{any}
 use Rattle.wordset.specs.Word.{bit}
 use Rattle.tableau.proofs.ListWords.{some-below}
 
+pub mode-bit : (a j : ℕ) → hasMode a j ≡ bit a j
+unfolding bit
+mode-bit a j = refl
+
 -- ---- the mode of a set of one mode
+
+pub own-mode : (m : ℕ) → hasMode (2 ^ m) m ≡ true
+own-mode m = mode-bit (2 ^ m) m ∙ bit-pow m m ∙ eq-eqb m m refl
 
 trailing-pow : (k : ℕ) → k < 16 → trailingZeros 64 (2 ^ k) ≡ k
 trailing-pow k h =

@@ -26,6 +26,7 @@ use Rattle.tableau.specs.Blocks.{has}
 use Rattle.tableau.specs.Links.{meets, meetsAt}
 use Rattle.tableau.proofs.BlockLaws.{block-at}
 use Rattle.tableau.proofs.ListWords.{held, minus-member}
+use Rattle.tableau.proofs.ModeLaws.{mode-bit}
 use Rattle.tableau.proofs.Sifting.{less, less-bit, less-lt, lowest}
 
 pub idle : (a b : Bool) → true ≡ b → a ≡ (a && b)
@@ -34,55 +35,55 @@ idle a b e = sym (and-true a) ∙ ap (λ x. a && x) e
 -- ---- links to the types of one word
 
 -- a type's row and word y at j have no type in common
-pub apart-at : (w : ℕ) (lw : List ℕ) (m j y t : ℕ) → y < 2 ^ 64 → getD lw ((t * 16 + m) * w + j) 0 < 2 ^ 64 → (r : Bool) → r ≡ eqb (bitAnd (getD lw ((t * 16 + m) * w + j) 0) y) 0 → r ≡ not (meetsAt w lw m j y t)
+pub apart-at : (w : ℕ) (rows : List ℕ) (j y t : ℕ) → y < 2 ^ 64 → getD rows (t * w + j) 0 < 2 ^ 64 → (r : Bool) → r ≡ eqb (bitAnd (getD rows (t * w + j) 0) y) 0 → r ≡ not (meetsAt w rows j y t)
 unfolding meetsAt
-apart-at w lw m j y t h k r e =
-    e ∙ sym (ap not (any-ext (λ b. has w lw (t * 16 + m) (j * 64 + b) && bit y b) (bit (bitAnd x y)) 64 (λ b l. ap (λ z. z && bit y b) (block-at w lw (t * 16 + m) j b l) ∙ sym (bit-and x y b))
+apart-at w rows j y t h k r e =
+    e ∙ sym (ap not (any-ext (λ b. has w rows t (j * 64 + b) && bit y b) (bit (bitAnd x y)) 64 (λ b l. ap (λ z. z && bit y b) (block-at w rows t j b l) ∙ sym (bit-and x y b))
     ∙ any-bit 64 (bitAnd x y) (and-lt 64 x y k h)) ∙ twice (eqb (bitAnd x y) 0))
   where
     x : ℕ
-    x = getD lw ((t * 16 + m) * w + j) 0
+    x = getD rows (t * w + j) 0
 
     twice : (b : Bool) → not (not b) ≡ b
     twice true = refl
     twice false = refl
 
 -- a word without types
-pub apart-none : (w : ℕ) (lw : List ℕ) (m j y : ℕ) (d : List ℕ) → y ≡ 0 → (t : ℕ) → t < w * 64 → member d t ≡ (member d t && not (meetsAt w lw m j y t))
+pub apart-none : (w : ℕ) (rows : List ℕ) (j y : ℕ) (d : List ℕ) → y ≡ 0 → (t : ℕ) → t < w * 64 → member d t ≡ (member d t && not (meetsAt w rows j y t))
 unfolding meetsAt
-apart-none w lw m j y d e t l =
-    idle (member d t) _ (sym (ap not (any-none (λ b. has w lw (t * 16 + m) (j * 64 + b) && bit y b) 64
-    (λ b h. ap (λ (z : ℕ). has w lw (t * 16 + m) (j * 64 + b) && bit z b) e ∙ ap (λ z. has w lw (t * 16 + m) (j * 64 + b) && z) (bit-none b) ∙ and-false (has w lw (t * 16 + m) (j * 64 + b))))))
+apart-none w rows j y d e t l =
+    idle (member d t) _ (sym (ap not (any-none (λ b. has w rows t (j * 64 + b) && bit y b) 64
+    (λ b h. ap (λ (z : ℕ). has w rows t (j * 64 + b) && bit z b) e ∙ ap (λ z. has w rows t (j * 64 + b) && z) (bit-none b) ∙ and-false (has w rows t (j * 64 + b))))))
 
 -- ---- the loop over the words of a set: those of d₀ are left that are linked to no type of the first j words that passes S
 
-pub record Dropped (S : ℕ → Bool) (w : ℕ) (lw : List ℕ) (m : ℕ) (d₀ d : List ℕ) (j : ℕ) : Type 0 where
+pub record Dropped (S : ℕ → Bool) (w : ℕ) (rows : List ℕ) (d₀ d : List ℕ) (j : ℕ) : Type 0 where
   pub within : j ≤ w
   pub long : length d ≡ length d₀
-  pub is : (t : ℕ) → t < w * 64 → member d t ≡ (member d₀ t && not (any (j * 64) (λ c. has w lw (t * 16 + m) c && S c)))
+  pub is : (t : ℕ) → t < w * 64 → member d t ≡ (member d₀ t && not (any (j * 64) (λ c. has w rows t c && S c)))
 
-module _ {S : ℕ → Bool} {w : ℕ} {lw : List ℕ} {m : ℕ} {d₀ : List ℕ} where
-  pub dropped-start : Dropped S w lw m d₀ d₀ 0
+module _ {S : ℕ → Bool} {w : ℕ} {rows : List ℕ} {d₀ : List ℕ} where
+  pub dropped-start : Dropped S w rows d₀ d₀ 0
   unfolding any
   dropped-start = record { within = omega arith; long = refl; is = λ t l. sym (and-true (member d₀ t)) }
 
-  pub dropped-on : {d : List ℕ} {j y : ℕ} → Dropped S w lw m d₀ d j → (d′ : List ℕ) → j < w → length d′ ≡ length d → Answers S j y
-      → ((t : ℕ) → t < w * 64 → member d′ t ≡ (member d t && not (meetsAt w lw m j y t))) → Dropped S w lw m d₀ d′ (j + 1)
+  pub dropped-on : {d : List ℕ} {j y : ℕ} → Dropped S w rows d₀ d j → (d′ : List ℕ) → j < w → length d′ ≡ length d → Answers S j y
+      → ((t : ℕ) → t < w * 64 → member d′ t ≡ (member d t && not (meetsAt w rows j y t))) → Dropped S w rows d₀ d′ (j + 1)
   unfolding meetsAt
   dropped-on {d} {j} {y} s d′ h e a f = record {
     within = omega arith;
     long = e ∙ s .long;
-    is = λ t l. f t l ∙ ap₂ (λ p q. p && not q) (s .is t l) (any-ext (λ b. has w lw (t * 16 + m) (j * 64 + b) && bit y b) (λ b. P t (j * 64 + b)) 64 (λ b k. ap (λ z. has w lw (t * 16 + m) (j * 64 + b) && z) (sym (a .each b k))))
+    is = λ t l. f t l ∙ ap₂ (λ p q. p && not q) (s .is t l) (any-ext (λ b. has w rows t (j * 64 + b) && bit y b) (λ b. P t (j * 64 + b)) 64 (λ b k. ap (λ z. has w rows t (j * 64 + b) && z) (sym (a .each b k))))
         ∙ and-assoc (member d₀ t) _ _ ∙ ap (λ z. member d₀ t && z) (sym (not-or (any (j * 64) (P t)) (any 64 (λ b. P t (j * 64 + b)))))
         ∙ ap (λ z. member d₀ t && not z) (sym (any-add (P t) (j * 64) 64) ∙ ap (λ k. any k (P t)) (let q : j * 64 + 64 ≡ (j + 1) * 64 = omega arith in q));
   }
     where
       P : ℕ → ℕ → Bool
-      P t c = has w lw (t * 16 + m) c && S c
+      P t c = has w rows t c && S c
 
-  pub dropped-end : {d : List ℕ} {j : ℕ} → Dropped S w lw m d₀ d j → w ≤ j → (t : ℕ) → t < w * 64 → member d t ≡ (member d₀ t && not (meets w lw m S t))
+  pub dropped-end : {d : List ℕ} {j : ℕ} → Dropped S w rows d₀ d j → w ≤ j → (t : ℕ) → t < w * 64 → member d t ≡ (member d₀ t && not (meets w rows S t))
   unfolding meets
-  dropped-end {j = j} s h t l = let b = s .within in let e : j ≡ w = omega arith in s .is t l ∙ ap (λ k. member d₀ t && not (any (k * 64) (λ c. has w lw (t * 16 + m) c && S c))) e
+  dropped-end {j = j} s h t l = let b = s .within in let e : j ≡ w = omega arith in s .is t l ∙ ap (λ k. member d₀ t && not (any (k * 64) (λ c. has w rows t c && S c))) e
 
 -- those of d stay that are not in block i, or pass M, where v has the others
 pub dropped-kept : (M : ℕ → Bool) (d v₀ v d′ tw : List ℕ) (w i : ℕ) → ((t : ℕ) → t < w * 64 → member v₀ t ≡ (member d t && has w tw i t)) → ((t : ℕ) → t < w * 64 → member v t ≡ (member v₀ t && not (M t)))
@@ -106,11 +107,8 @@ linked-member M d tw l w i = held (λ t. member d t && (not (has w tw i t) || M 
 pub record Moded (F : ℕ → ℕ → Bool) (w a : ℕ) (src d₀ d : List ℕ) (rest : ℕ) : Type 0 where
   pub fits : rest < 2 ^ 16
   pub long : length d ≡ length d₀
+  pub among : (j : ℕ) → hasMode rest j ≡ true → hasMode a j ≡ true
   pub is : (t : ℕ) → t < w * 64 → (member d t && not (any 16 (λ j. hasMode rest j && F j t))) ≡ (member src t && not (any 16 (λ j. hasMode a j && F j t)))
-
-mode-bit : (a j : ℕ) → hasMode a j ≡ bit a j
-unfolding bit
-mode-bit a j = refl
 
 -- one number of several
 any-take : (P : ℕ → Bool) (n m : ℕ) → m < n → any n P ≡ (P m || any n (λ j. P j && not (eqb j m)))
@@ -126,17 +124,24 @@ any-take P n m h =
 
 module _ {F : ℕ → ℕ → Bool} {w a : ℕ} {src : List ℕ} where
   pub mode-start : {d : List ℕ} → a < 65536 → ((t : ℕ) → t < w * 64 → member d t ≡ member src t) → Moded F w a src d d a
-  mode-start h f = record { fits = omega arith; long = refl; is = λ t l. ap (λ z. z && not (any 16 (λ j. hasMode a j && F j t))) (f t l) }
+  mode-start h f = record { fits = omega arith; long = refl; among = λ j k. k; is = λ t l. ap (λ z. z && not (any 16 (λ j. hasMode a j && F j t))) (f t l) }
 
   module _ {d₀ d : List ℕ} {rest : ℕ} (s : Moded F w a src d₀ d rest) where
     pub mode-low : (rest ≡ 0 → ⊥) → trailingZeros 64 rest < 16
     mode-low n = lowest 16 rest (omega arith) (s .fits) n .0
 
+    pub mode-has : (rest ≡ 0 → ⊥) → hasMode a (trailingZeros 64 rest) ≡ true
+    mode-has n = s .among _ (mode-bit rest _ ∙ lowest 16 rest (omega arith) (s .fits) n .1)
+
+    less-mode : (rest ≡ 0 → ⊥) → (j : ℕ) → hasMode (less rest) j ≡ (hasMode rest j && not (eqb j (trailingZeros 64 rest)))
+    less-mode n j = mode-bit (less rest) j ∙ less-bit rest n (omega (arith, s .fits)) j ∙ ap (λ z. z && not (eqb j (trailingZeros 64 rest))) (sym (mode-bit rest j))
+
     pub mode-on : (rest ≡ 0 → ⊥) → (d′ : List ℕ) → length d′ ≡ length d → ((t : ℕ) → t < w * 64 → member d′ t ≡ (member d t && not (F (trailingZeros 64 rest) t))) → Moded F w a src d₀ d′ (less rest)
     mode-on n d′ e f = record {
       fits = (let x = s .fits in let y = less-lt rest n in omega arith);
       long = e ∙ s .long;
-      is = λ t l. ap₂ (λ x y. x && not y) (f t l) (any-ext (λ j. hasMode (less rest) j && F j t) (λ j. R t j && not (eqb j m)) 16 (λ j k. ap (λ z. z && F j t) (mode-bit (less rest) j ∙ less-bit rest n (omega (arith, s .fits)) j ∙ ap (λ z. z && not (eqb j m)) (sym (mode-bit rest j))) ∙ swap (hasMode rest j) (eqb j m) (F j t)))
+      among = λ j k. s .among j (and-both (hasMode rest j) _ (sym (less-mode n j) ∙ k) .0);
+      is = λ t l. ap₂ (λ x y. x && not y) (f t l) (any-ext (λ j. hasMode (less rest) j && F j t) (λ j. R t j && not (eqb j m)) 16 (λ j k. ap (λ z. z && F j t) (less-mode n j) ∙ swap (hasMode rest j) (eqb j m) (F j t)))
           ∙ out (member d t) (F m t) (any 16 (λ j. R t j && not (eqb j m)))
           ∙ ap (λ z. member d t && not z) (ap (λ z. (z && F m t) || any 16 (λ j. R t j && not (eqb j m))) (sym (mode-bit rest m ∙ lowest 16 rest (omega arith) (s .fits) n .1)) ∙ sym (any-take (R t) 16 m (mode-low n))) ∙ s .is t l;
     }

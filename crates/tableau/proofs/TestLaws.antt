@@ -3,14 +3,6 @@ use mathlib.Core.Path.{_≡_, refl}
 use mathlib.Core.Bool.{Bool, true, false, not, _||_, Bool·beq}
 use Rattle.ctl.specs.Lists.{imp}
 
-pub to-true : (b : Bool) → imp b true ≡ true
-to-true true = refl
-to-true false = refl
-
-pub to-not : (b : Bool) → imp b false ≡ not b
-to-not true = refl
-to-not false = refl
-
 pub to-or : (a b : Bool) → imp a b ≡ (not a || b)
 to-or true b = refl
 to-or false b = refl

@@ -1,32 +1,52 @@
 -- Links between types, by words. Assumes nothing.
 use mathlib.Core.Path.{_≡_}
-use mathlib.Core.Bool.{Bool, _&&_, cond}
+use mathlib.Core.Bool.{Bool, true, not, _&&_, _||_, cond}
 use mathlib.Core.List.{List}
 use Prim.Native.Nat.{ℕ, _+_, _*_, _≤_, _<_}
-use lib.ListN.{length}
+use lib.Dec.{eqb}
+use lib.ListN.{length, getD, drop}
 use Rattle.ctl.specs.Links.{link, linkBy, linkRule}
 use Rattle.ctl.specs.Lists.{imp}
-use Rattle.wordset.specs.Below.{any}
+use Rattle.ctl.specs.Modes.{hasMode}
+use Rattle.wordset.specs.Below.{any, count}
 use Rattle.wordset.specs.Word.{bit}
-use Rattle.closure.specs.Members.{forms}
+use Rattle.closure.specs.Members.{argW, forms, tagW}
 use Rattle.tableau.specs.Tables.{form, leanForms}
 use Rattle.tableau.specs.Blocks.{has}
+use Rattle.tableau.specs.declared.links.Rule.{Rule}
+use Rattle.tableau.specs.declared.links.Rule.the-variants.{Forward, Backward, BothWays}
 
 -- links by a mode
 abbrev pub Lk : List ℕ → List ℕ → ℕ → ℕ → ℕ → Bool
 Lk ms ln = linkBy (forms ms) (leanForms ms ln)
 
--- the link words: block 16 t + m has the types that t is linked to by mode m
+-- a round can ask for the links by mode m: it is a mode of an EX or of an EU
+unfoldable pub asksBy : ℕ → ℕ → Bool
+asksBy x m = (eqb (tagW x) 6 || eqb (tagW x) 8) && hasMode (argW x) m
+
+unfoldable pub asked : List ℕ → ℕ → Bool
+asked ms m = any (length ms) (λ i. asksBy (getD ms i 0) m)
+
+-- how many link words there are: 16 that say where a mode's rows begin, and a row for each type and each mode that is asked for
+unfoldable pub linkRoom : List ℕ → ℕ → ℕ
+linkRoom ms w = 16 + count 16 (asked ms) * (w * 64 * w)
+
+-- the rows of mode m
+abbrev pub rowsOf : List ℕ → ℕ → List ℕ
+rowsOf lw m = drop (getD lw m 0) lw
+
+-- the link words: for each mode that is asked for, row t has the types that t is linked to
 pub record Rows (ms ln : List ℕ) (w : ℕ) (lw : List ℕ) : Type 0 where
-  pub room : w * 1024 * w ≤ length lw
-  pub rows : (t m u : ℕ) → t < w * 64 → m < 16 → u < w * 64 → has w lw (t * 16 + m) u ≡ Lk ms ln m t u
+  pub head : 16 ≤ length lw
+  pub room : (m : ℕ) → m < 16 → asked ms m ≡ true → getD lw m 0 + w * 64 * w ≤ length lw
+  pub rows : (m : ℕ) → m < 16 → asked ms m ≡ true → (t u : ℕ) → t < w * 64 → u < w * 64 → has w (rowsOf lw m) t u ≡ Lk ms ln m t u
 
--- by those words t is linked by mode m to a type that passes S, or to a type that word y at j has
-unfoldable pub meets : ℕ → List ℕ → ℕ → (ℕ → Bool) → ℕ → Bool
-meets w lw m S t = any (w * 64) (λ c. has w lw (t * 16 + m) c && S c)
+-- by the rows of a mode t is linked to a type that passes S, or to a type that word y at j has
+unfoldable pub meets : ℕ → List ℕ → (ℕ → Bool) → ℕ → Bool
+meets w rows S t = any (w * 64) (λ c. has w rows t c && S c)
 
-unfoldable pub meetsAt : ℕ → List ℕ → ℕ → ℕ → ℕ → ℕ → Bool
-meetsAt w lw m j y t = any 64 (λ b. has w lw (t * 16 + m) (j * 64 + b) && bit y b)
+unfoldable pub meetsAt : ℕ → List ℕ → ℕ → ℕ → ℕ → Bool
+meetsAt w rows j y t = any 64 (λ b. has w rows t (j * 64 + b) && bit y b)
 
 -- ---- how they are found
 
@@ -41,3 +61,19 @@ ruleBy ms ln f back t u i = cond back (linkRule (leanForms ms ln) f u t (form ms
 -- links by a field, or back along it
 unfoldable pub linkBack : List ℕ → List ℕ → ℕ → Bool → ℕ → ℕ → Bool
 linkBack ms ln f back t u = cond back (link (forms ms) (leanForms ms ln) f u t) (link (forms ms) (leanForms ms ln) f t u)
+
+-- whether a member has a say on the row of a type, by its truth and that of its body (or its right operand) there
+unfoldable pub selects : Rule → Bool → Bool → Bool
+selects Forward it pt = it
+selects Backward it pt = not pt
+selects BothWays it pt = it && not pt
+
+-- whether it then keeps a type in that row, by their truth there
+unfoldable pub keeps : Rule → Bool → Bool → Bool
+keeps Forward iu pu = pu
+keeps Backward iu pu = not iu
+keeps BothWays iu pu = not iu || pu
+
+-- rows that kept, of their links, those that pass the test
+pub record Narrowed (w : ℕ) (rows rows′ : List ℕ) (F : ℕ → ℕ → Bool) : Type 0 where
+  pub is : (t u : ℕ) → t < w * 64 → u < w * 64 → has w rows′ t u ≡ (has w rows t u && F t u)

@@ -9,7 +9,7 @@ use crate::members::tag;
 ghost use mathlib.Core.Path.{_≡_};
 ghost use mathlib.Core.Bool.{Bool, Bool·beq, true, not, _&&_, _||_};
 ghost use Prim.Native.Nat.{ℕ, _+_, _*_, _^_, _≤_, _<_};
-ghost use lib.ListN.{length};
+ghost use lib.ListN.{length, getD};
 ghost use Rattle.ctl.specs.Lists as L;
 ghost use Rattle.ctl.specs.Lists.{elem};
 ghost use Rattle.ctl.specs.Modes.{hasMode};
@@ -20,7 +20,7 @@ ghost use Rattle.wordset.specs.Words.{member, packed};
 ghost use Rattle.closure.specs.Members.{forms};
 ghost use Rattle.tableau.specs.Tables.{form, tagAt};
 ghost use Rattle.tableau.specs.Blocks.{has};
-ghost use Rattle.tableau.specs.Links.{meets, meetsAt};
+ghost use Rattle.tableau.specs.Links.{meets, meetsAt, rowsOf};
 ghost use Rattle.tableau.specs.Families.{Follows, Good, Ready, Round, Rounds, Survivors, lacks, listOf, passes};
 
 // Word x with the numbers of word y, if on is true.
@@ -33,27 +33,27 @@ fn join_if(x: u64, y: u64, on: bool) -> u64
     x
 }
 
-// Of the types that word x at k has, those that are not linked by mode m to a type of word y at j. Only the types of x are visited.
-fn unlinked_word(lw: &[u64], w: usize, m: usize, j: usize, y: u64, k: usize, x: u64) -> u64
-    requires { ⌜ (w * 1024 * w ≤ length (now lw)) × (w ≤ 1024) × (m < 16) × (j < w) × (k < w) ⌝ }
-    ensures { λ r. ⌜ ((P : ℕ → Bool) → Answers P k x → Answers (λ t. P t && not (meetsAt w (now (lw .entry)) m j y t)) k r) ⌝ }
+// Of the types that word x at k has, those whose row has no type of word y at j. Only the types of x are visited.
+fn unlinked_word(rows: &[u64], w: usize, j: usize, y: u64, k: usize, x: u64) -> u64
+    requires { ⌜ (w * 64 * w ≤ length (now rows)) × (w ≤ 1024) × (j < w) × (k < w) ⌝ }
+    ensures { λ r. ⌜ ((P : ℕ → Bool) → Answers P k x → Answers (λ t. P t && not (meetsAt w (now (rows .entry)) j y t)) k r) ⌝ }
 {
     let mut acc: u64 = 0;
     let mut rest = x;
     while rest != 0 {
         let b = u64::trailing_zeros(rest) as usize;
-        let at = ((k * 64 + b) * 16 + m) * w + j;
+        let at = (k * 64 + b) * w + j;
         let next = rest & (rest - 1);
-        acc = join_if(acc, rest & !next, lw[at] & y == 0);
+        acc = join_if(acc, rest & !next, rows[at] & y == 0);
         rest = next;
     }
     acc
 }
 
-// Those of dst stay that are not linked by mode m to a type of word y at j.
-fn drop_linked_word(dst: &mut [u64], lw: &[u64], w: usize, m: usize, j: usize, y: u64)
-    requires { ⌜ (w * 1024 * w ≤ length (now lw)) × (w ≤ 1024) × (m < 16) × (j < w) × (w ≤ length (now dst)) ⌝ }
-    ensures { λ _. ⌜ ((t : ℕ) → t < w * 64 → member (now (dst .exit)) t ≡ (member (now (dst .entry)) t && not (meetsAt w (now (lw .entry)) m j y t))) ⌝ }
+// Those of dst stay that are not linked by the rows to a type of word y at j.
+fn drop_linked_word(dst: &mut [u64], rows: &[u64], w: usize, j: usize, y: u64)
+    requires { ⌜ (w * 64 * w ≤ length (now rows)) × (w ≤ 1024) × (j < w) × (w ≤ length (now dst)) ⌝ }
+    ensures { λ _. ⌜ ((t : ℕ) → t < w * 64 → member (now (dst .exit)) t ≡ (member (now (dst .entry)) t && not (meetsAt w (now (rows .entry)) j y t))) ⌝ }
 {
     if y == 0 {
         return;
@@ -61,68 +61,69 @@ fn drop_linked_word(dst: &mut [u64], lw: &[u64], w: usize, m: usize, j: usize, y
     let mut k = 0;
     while k < w {
         let x = dst[k];
-        dst[k] = unlinked_word(lw, w, m, j, y, k, x);
+        dst[k] = unlinked_word(rows, w, j, y, k, x);
         k += 1;
     }
 }
 
-// Those of dst stay that are not linked by mode m to a type of u.
-fn drop_linked(dst: &mut [u64], u: &[u64], lw: &[u64], w: usize, m: usize)
-    requires { ⌜ (w * 1024 * w ≤ length (now lw)) × (w ≤ 1024) × (m < 16) × (w ≤ length (now dst)) × (w ≤ length (now u)) ⌝ }
-    ensures { λ _. ⌜ ((t : ℕ) → t < w * 64 → member (now (dst .exit)) t ≡ (member (now (dst .entry)) t && not (meets w (now (lw .entry)) m (member (now (u .entry))) t))) ⌝ }
+// Those of dst stay that are not linked by the rows to a type of u.
+fn drop_linked(dst: &mut [u64], u: &[u64], rows: &[u64], w: usize)
+    requires { ⌜ (w * 64 * w ≤ length (now rows)) × (w ≤ 1024) × (w ≤ length (now dst)) × (w ≤ length (now u)) ⌝ }
+    ensures { λ _. ⌜ ((t : ℕ) → t < w * 64 → member (now (dst .exit)) t ≡ (member (now (dst .entry)) t && not (meets w (now (rows .entry)) (member (now (u .entry))) t))) ⌝ }
 {
     let mut j = 0;
     while j < w {
-        drop_linked_word(dst, lw, w, m, j, u[j]);
+        drop_linked_word(dst, rows, w, j, u[j]);
         j += 1;
     }
 }
 
-// Those of dst stay that are not linked by mode m to a type of u in block p.
-fn drop_linked_in(dst: &mut [u64], u: &[u64], tw: &[u64], lw: &[u64], w: usize, m: usize, p: usize)
-    requires { ⌜ (w * 1024 * w ≤ length (now lw)) × (w ≤ 1024) × (m < 16) × (w ≤ length (now dst)) × (w ≤ length (now u)) × (p * w + w ≤ length (now tw)) ⌝ }
-    ensures { λ _. ⌜ ((t : ℕ) → t < w * 64 → member (now (dst .exit)) t ≡ (member (now (dst .entry)) t && not (meets w (now (lw .entry)) m (λ c. member (now (u .entry)) c && has w (now (tw .entry)) p c) t))) ⌝ }
+// Those of dst stay that are not linked by the rows to a type of u in block p.
+fn drop_linked_in(dst: &mut [u64], u: &[u64], tw: &[u64], rows: &[u64], w: usize, p: usize)
+    requires { ⌜ (w * 64 * w ≤ length (now rows)) × (w ≤ 1024) × (w ≤ length (now dst)) × (w ≤ length (now u)) × (p * w + w ≤ length (now tw)) ⌝ }
+    ensures { λ _. ⌜ ((t : ℕ) → t < w * 64 → member (now (dst .exit)) t ≡ (member (now (dst .entry)) t && not (meets w (now (rows .entry)) (λ c. member (now (u .entry)) c && has w (now (tw .entry)) p c) t))) ⌝ }
 {
     let mut j = 0;
     while j < w {
         let at = p * w + j;
-        drop_linked_word(dst, lw, w, m, j, u[j] & tw[at]);
+        drop_linked_word(dst, rows, w, j, u[j] & tw[at]);
         j += 1;
     }
 }
 
-// Those of dst stay that are not in block i, or are linked by mode m to a type of u in block p. The first w words of v are overwritten.
+// Those of dst stay that are not in block i, or are linked by the rows to a type of u in block p. The first w words of v are overwritten.
 fn confine_linked(
     dst: &mut [u64],
     v: &mut [u64],
     u: &[u64],
     tw: &[u64],
-    lw: &[u64],
+    rows: &[u64],
     w: usize,
     i: usize,
-    m: usize,
     p: usize,
 )
-    requires { ⌜ (w * 1024 * w ≤ length (now lw)) × (w ≤ 1024) × (m < 16) × (i * w + w ≤ length (now tw)) × (p * w + w ≤ length (now tw)) ⌝ }
+    requires { ⌜ (w * 64 * w ≤ length (now rows)) × (w ≤ 1024) × (i * w + w ≤ length (now tw)) × (p * w + w ≤ length (now tw)) ⌝ }
     requires { ⌜ (w ≤ length (now dst)) × (w ≤ length (now v)) × (w ≤ length (now u)) ⌝ }
-    ensures { λ _. ⌜ now (dst .exit) ≡ packed w (λ t. member (now (dst .entry)) t && (not (has w (now (tw .entry)) i t) || meets w (now (lw .entry)) m (λ c. member (now (u .entry)) c && has w (now (tw .entry)) p c) t)) (now (dst .entry)) ⌝ }
+    ensures { λ _. ⌜ now (dst .exit) ≡ packed w (λ t. member (now (dst .entry)) t && (not (has w (now (tw .entry)) i t) || meets w (now (rows .entry)) (λ c. member (now (u .entry)) c && has w (now (tw .entry)) p c) t)) (now (dst .entry)) ⌝ }
 {
     pick(v, dst, tw, w, i);
-    drop_linked_in(v, u, tw, lw, w, m, p);
+    drop_linked_in(v, u, tw, rows, w, p);
     wordset::subtract(dst, v, w);
 }
 
 // Those of dst stay that are linked by one of the modes a to a type of u. The first w words of v are overwritten.
 fn step(dst: &mut [u64], v: &mut [u64], u: &[u64], lw: &[u64], w: usize, a: u64)
-    requires { ⌜ (w * 1024 * w ≤ length (now lw)) × (w ≤ 1024) × (a < 65536) ⌝ }
+    requires { ⌜ (16 ≤ length (now lw)) × (w ≤ 1024) × (a < 65536) ⌝ }
+    requires { ⌜ ((m : ℕ) → m < 16 → hasMode a m ≡ true → getD (now lw) m 0 + w * 64 * w ≤ length (now lw)) ⌝ }
     requires { ⌜ (w ≤ length (now dst)) × (w ≤ length (now v)) × (w ≤ length (now u)) ⌝ }
-    ensures { λ _. ⌜ ((t : ℕ) → t < w * 64 → member (now (dst .exit)) t ≡ (member (now (dst .entry)) t && any 16 (λ m. hasMode a m && meets w (now (lw .entry)) m (member (now (u .entry))) t))) ⌝ }
+    ensures { λ _. ⌜ ((t : ℕ) → t < w * 64 → member (now (dst .exit)) t ≡ (member (now (dst .entry)) t && any 16 (λ m. hasMode a m && meets w (rowsOf (now (lw .entry)) m) (member (now (u .entry))) t))) ⌝ }
 {
     wordset::copy(v, dst, w);
     let mut rest = a;
     while rest != 0 {
         let m = u64::trailing_zeros(rest) as usize;
-        drop_linked(v, u, lw, w, m);
+        let at = lw[m] as usize;
+        drop_linked(v, u, &lw[at..], w);
         rest = rest & (rest - 1);
     }
     wordset::subtract(dst, v, w);
@@ -157,7 +158,8 @@ fn follow(
     if !has_mode(a, m) {
         return;
     }
-    confine_linked(dst, v, u, tw, lw, w, i, m, left(x));
+    let at = lw[m] as usize;
+    confine_linked(dst, v, u, tw, &lw[at..], w, i, left(x));
 }
 
 // The same for every EX of the closure. Those over one mode are in the lean, and the others ask for nothing.
@@ -314,7 +316,8 @@ fn eliminate_member(
         if m >= 16 {
             return;
         }
-        confine_linked(dst, v, src, tw, lw, w, i, m, left(x));
+        let at = lw[m] as usize;
+        confine_linked(dst, v, src, tw, &lw[at..], w, i, left(x));
         return;
     }
     if g < 8 {

@@ -1,8 +1,10 @@
+-- `set_up` meets its contract: a refusal, or the frame of what was read. Assumes nothing.
 use denote.Struct.Field.{u8-field, usize-field}
-use Rattle.frame.proofs.SetUpLaws.{count-within, formulas-within, frame-asked, setup-accepted, setup-refused, symbols-within, width-within}
 use mathlib.Core.Path.{refl, sym}
 use lib.Seq.{length-take-le}
-use borrow.Author.Needs.{needs, length-unmapped}
+use borrow.Author.Needs.{length-unmapped}
+use Rattle.frame.proofs.SetUpLaws.{count-within, formulas-within, frame-asked, setup-accepted, setup-refused, symbols-within, width-within}
+use borrow.Author.Needs.{needs}
 use Rattle.frame.proofs.set_up.Statement.{statement}
 use Rattle.frame.proofs.set_up.Tie as tie
 
@@ -89,25 +91,18 @@ slice-aggregate-frame-of-7 c = search needs
 
 frame-of-requires : tie.Need-frame-of-requires
 frame-of-requires c κs =
-    let b13 = c .before .before .before .before .before .before .before .before .before .before .before .before .before in
-    let b14 = b13 .before in
-    let b15 = b14 .before in
-    let b19 = b15 .before .before .before .before in
-    frame-asked (b15 .read .ensures) (b14 .number .ensures) (b13 .if1 .left) (length-unmapped (usize-field .Value) (b15 .read .result .places) 5 (b15 .read .ok .1 .1 .1 .1 .1 .1 .1 .0 .1 .0 .1)) (b19 .pre) refl refl refl
-
-same-length : tie.Need-same-length
-same-length c = search needs
-
-same-length-2 : tie.Need-same-length-2
-same-length-2 c = search needs
+    let b11 = c .before .before .before .before .before .before .before .before .before .before .before in
+    let b12 = b11 .before in
+    let b13 = b12 .before in
+    frame-asked (b13 .read .ensures) (b12 .number .ensures) (b11 .if1 .left) (length-unmapped (usize-field .Value) (b13 .read .result .places) 5 (b13 .read .ok .1 .1 .1 .1 .1 .1 .1 .0 .1 .0 .1)) refl refl refl
 
 returns-2 : tie.Need-returns-2
 returns-2 c =
-    let b7 = c .before .before .before .before .before .before .before in
-    let b21 = b7 .before .before .before .before .before .before .before .before .before .before .before .before .before .before in
-    let b22 = b21 .before in
-    let b23 = b22 .before in
-    setup-accepted (b23 .read .ensures) (b22 .number .ensures) (b21 .if1 .left) refl (length-unmapped (usize-field .Value) (b23 .read .result .places) 5 (b23 .read .ok .1 .1 .1 .1 .1 .1 .1 .0 .1 .0 .1)) (b7 .frame-of .ensures) (b7 .frame-of .kept .1 .1 .1 .1 .1 .1 .0) (b7 .frame-of .kept .1 .1 .1 .1 .1 .1 .1 .0) (b7 .frame-of .kept .1 .1 .1 .1 .1 .1 .1 .1 .0)
+    let b3 = c .before .before .before in
+    let b15 = b3 .before .before .before .before .before .before .before .before .before .before .before .before in
+    let b16 = b15 .before in
+    let b17 = b16 .before in
+    setup-accepted (b17 .read .ensures) (b16 .number .ensures) (b15 .if1 .left) (length-unmapped (usize-field .Value) (b17 .read .result .places) 5 (b17 .read .ok .1 .1 .1 .1 .1 .1 .1 .0 .1 .0 .1)) (b3 .frame-of .ensures) (b3 .frame-of .kept .1 .1 .1 .1 .0) (b3 .frame-of .kept .1 .1 .1 .1 .1 .0) (b3 .frame-of .kept .1 .1 .1 .1 .1 .1 .0)
 
 pub set-up-spec : {M : Type 1} → statement M
 set-up-spec =
@@ -129,6 +124,4 @@ set-up-spec =
     slice-aggregate-frame-of-6
     slice-aggregate-frame-of-7
     frame-of-requires
-    same-length
-    same-length-2
     returns-2)

@@ -13,13 +13,13 @@ use Rattle.tableau.proofs.eliminate.confine_linked.Tie as tie
 pick-requires : tie.Need-pick-requires
 pick-requires c κs =
     let b7 = c .before .before .before .before .before .before .before in
-    (b7 .pre .1 .1, b7 .pre .1 .0, b7 .pre .0 .3)
+    (b7 .pre .1 .1, b7 .pre .1 .0, b7 .pre .0 .2)
 
 drop-linked-in-requires : tie.Need-drop-linked-in-requires
 drop-linked-in-requires c κs =
     let b3 = c .before .before .before in
     let b11 = b3 .before .before .before .before .before .before .before .before in
-    (b11 .pre .0 .0, b11 .pre .0 .1, b11 .pre .0 .2, (let k = b3 .pick .kept .0 in let h = b11 .pre .1 .1 in omega arith), b11 .pre .1 .2, b11 .pre .0 .4)
+    (b11 .pre .0 .0, b11 .pre .0 .1, (let k = b3 .pick .kept .0 in let h = b11 .pre .1 .1 in omega arith), b11 .pre .1 .2, b11 .pre .0 .3)
 
 subtract-requires : tie.Need-subtract-requires
 subtract-requires c κs =
@@ -45,7 +45,7 @@ returns c =
     let b7 = b2 .before .before .before .before .before in
     let b11 = b7 .before .before .before .before in
     let b19 = b11 .before .before .before .before .before .before .before .before in
-    dropped-kept (meets (b19 .args .w) (b19 .args .lw .now) (b19 .args .m) (λ c. member (b19 .args .u .now) c && has (b19 .args .w) (b19 .args .tw .now) (b19 .args .p) c)) _ _ _ _ _ _ _
+    dropped-kept (meets (b19 .args .w) (b19 .args .rows .now) (λ c. member (b19 .args .u .now) c && has (b19 .args .w) (b19 .args .tw .now) (b19 .args .p) c)) _ _ _ _ _ _ _
     (pick-member _ _ _ _ _ _ (b19 .pre .1 .1) (b11 .pick .ensures)) (b7 .drop-linked-in .ensures) (b2 .subtract .ensures)
 
 pub confine-linked-spec : {M : Type 1} → statement M

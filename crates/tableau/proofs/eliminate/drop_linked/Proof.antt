@@ -9,10 +9,10 @@ use Rattle.tableau.proofs.eliminate.drop_linked.Statement.{statement}
 use Rattle.tableau.proofs.eliminate.drop_linked.Tie as tie
 
 abbrev Inv-loop : tie.InvT-loop
-Inv-loop dst₀ u lw w m j₀ dst j = Dropped (member u) w lw m dst₀ dst j
+Inv-loop dst₀ u rows w j₀ dst j = Dropped (member u) w rows dst₀ dst j
 
 abbrev μ-loop : tie.MeasureT-loop
-μ-loop dst₀ u lw w m j₀ dst j = w - j
+μ-loop dst₀ u rows w j₀ dst j = w - j
 
 loop-holds : tie.Need-loop-holds Inv-loop μ-loop
 loop-holds c = dropped-start
@@ -28,7 +28,7 @@ drop-linked-word-requires c κs =
     let b2 = c .before .before in
     let b3 = b2 .before in
     let b7 = b3 .before .before .before .before in
-    (b7 .pre .0, b7 .pre .1, b7 .pre .2, b2 .loop-test .taken, (let l = b3 .loop .inv .long in let h = b7 .pre .3 in omega arith))
+    (b7 .pre .0, b7 .pre .1, b2 .loop-test .taken, (let l = b3 .loop .inv .long in let h = b7 .pre .2 in omega arith))
 
 add-j : tie.Need-add-j Inv-loop μ-loop
 add-j c =

@@ -12,10 +12,10 @@ use Rattle.tableau.proofs.eliminate.drop_linked_in.Statement.{statement
 use Rattle.tableau.proofs.eliminate.drop_linked_in.Tie as tie
 
 abbrev Inv-loop : tie.InvT-loop
-Inv-loop dst₀ u tw lw w m p j₀ dst j = Dropped (λ c. member u c && has w tw p c) w lw m dst₀ dst j
+Inv-loop dst₀ u tw rows w p j₀ dst j = Dropped (λ c. member u c && has w tw p c) w rows dst₀ dst j
 
 abbrev μ-loop : tie.MeasureT-loop
-μ-loop dst₀ u tw lw w m p j₀ dst j = w - j
+μ-loop dst₀ u tw rows w p j₀ dst j = w - j
 
 loop-holds : tie.Need-loop-holds Inv-loop μ-loop
 loop-holds c = dropped-start
@@ -23,12 +23,12 @@ loop-holds c = dropped-start
 mul-at : tie.Need-mul-at Inv-loop μ-loop
 mul-at c =
     let b6 = c .before .before .before .before .before .before in
-    omega (arith, b6 .pre .5)
+    omega (arith, b6 .pre .4)
 
 add-at : tie.Need-add-at Inv-loop μ-loop
 add-at c =
     let b6 = c .before .before .before .before .before .before in
-    omega (arith, b6 .pre .5)
+    omega (arith, b6 .pre .4)
 
 mul-drop-linked-word : tie.Need-mul-drop-linked-word Inv-loop μ-loop
 mul-drop-linked-word c = search needs
@@ -39,19 +39,19 @@ shared-slice-read-drop-linked-word c = search needs
 mul-drop-linked-word-2 : tie.Need-mul-drop-linked-word-2 Inv-loop μ-loop
 mul-drop-linked-word-2 c =
     let b8 = c .before .before .before .before .before .before .before .before in
-    omega (arith, b8 .pre .5)
+    omega (arith, b8 .pre .4)
 
 shared-slice-read-drop-linked-word-2 : tie.Need-shared-slice-read-drop-linked-word-2 Inv-loop μ-loop
 shared-slice-read-drop-linked-word-2 c =
     let b9 = c .before .before .before .before .before .before .before .before .before in
-    omega (arith, b9 .pre .5)
+    omega (arith, b9 .pre .4)
 
 drop-linked-word-requires : tie.Need-drop-linked-word-requires Inv-loop μ-loop
 drop-linked-word-requires c κs =
     let b3 = c .before .before .before in
     let b4 = b3 .before in
     let b9 = b4 .before .before .before .before .before in
-    (b9 .pre .0, b9 .pre .1, b9 .pre .2, b3 .loop-test .taken, (let l = b4 .loop .inv .long in let h = b9 .pre .3 in omega arith))
+    (b9 .pre .0, b9 .pre .1, b3 .loop-test .taken, (let l = b4 .loop .inv .long in let h = b9 .pre .2 in omega arith))
 
 add-j : tie.Need-add-j Inv-loop μ-loop
 add-j c =

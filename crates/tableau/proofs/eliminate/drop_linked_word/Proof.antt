@@ -13,13 +13,13 @@ use Rattle.tableau.proofs.eliminate.drop_linked_word.Statement.{stateme
 use Rattle.tableau.proofs.eliminate.drop_linked_word.Tie as tie
 
 abbrev Inv-loop : tie.InvT-loop
-Inv-loop dst₀ lw w m j y k₀ dst k = Filling (packWord (λ t. member dst₀ t && not (meetsAt w lw m j y t))) dst₀ w dst k
+Inv-loop dst₀ rows w j y k₀ dst k = Filling (packWord (λ t. member dst₀ t && not (meetsAt w rows j y t))) dst₀ w dst k
 
 abbrev μ-loop : tie.MeasureT-loop
-μ-loop dst₀ lw w m j y k₀ dst k = w - k
+μ-loop dst₀ rows w j y k₀ dst k = w - k
 
 returns : tie.Need-returns Inv-loop μ-loop
-returns c = apart-none _ _ _ _ _ _ (c .if1 .taken)
+returns c = apart-none _ _ _ _ _ (c .if1 .taken)
 
 loop-holds : tie.Need-loop-holds Inv-loop μ-loop
 loop-holds c = begins
@@ -34,7 +34,7 @@ unlinked-word-requires : tie.Need-unlinked-word-requires Inv-loop μ-loop
 unlinked-word-requires c κs =
     let b1 = c .before in
     let b6 = b1 .before .before .before .before .before in
-    (b6 .pre .0, b6 .pre .1, b6 .pre .2, b6 .pre .3, b1 .loop-test .taken)
+    (b6 .pre .0, b6 .pre .1, b6 .pre .2, b1 .loop-test .taken)
 
 mul-dst : tie.Need-mul-dst Inv-loop μ-loop
 mul-dst c = search needs
@@ -64,7 +64,7 @@ returns-2 : tie.Need-returns-2 Inv-loop μ-loop
 returns-2 c =
     let b1 = c .before in
     let b5 = b1 .before .before .before .before in
-    held (λ t. member (b5 .args .dst .now) t && not (meetsAt (b5 .args .w) (b5 .args .lw .now) (b5 .args .m) (b5 .args .j) (b5 .args .y) t)) _ _ _ (b5 .pre .4) (ends (b1 .loop .inv) (c .loop-test .left))
+    held (λ t. member (b5 .args .dst .now) t && not (meetsAt (b5 .args .w) (b5 .args .rows .now) (b5 .args .j) (b5 .args .y) t)) _ _ _ (b5 .pre .3) (ends (b1 .loop .inv) (c .loop-test .left))
 
 pub drop-linked-word-spec : {M : Type 1} → statement M
 drop-linked-word-spec =

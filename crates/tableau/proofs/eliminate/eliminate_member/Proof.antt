@@ -1,14 +1,32 @@
 -- `eliminate_member` meets its contract, a return for each kind of member. Assumes nothing.
-use mathlib.Core.Path.{sym, _∙_}
+use mathlib.Core.Path.{_≡_, sym, _∙_}
+use mathlib.Core.Bool.{true}
+use Prim.Native.Nat.{_+_, _*_, _≤_}
 use native.Mathlib.Omega.{arith}
+use lib.ListN.{length, getD}
 use borrow.Author.Needs.{needs}
+use Rattle.tableau.specs.Links.{asked}
 use Rattle.tableau.proofs.MemberLaws.{left-is}
-use Rattle.tableau.proofs.BlockLaws.{block-fits}
+use Rattle.tableau.proofs.BlockLaws.{block-fits, tail, tail-room}
 use Rattle.tableau.proofs.ModeLaws.{mode-one, mode-single, mode-wide}
-use Rattle.tableau.proofs.Asks.{meets-next}
+use Rattle.tableau.proofs.Asks.{asked-ex, meets-next}
 use Rattle.tableau.proofs.Rounding.{kept-ex, kept-other, kept-until, kept-wide}
 use Rattle.tableau.proofs.eliminate.eliminate_member.Statement.{statement}
 use Rattle.tableau.proofs.eliminate.eliminate_member.Tie as tie
+
+abbrev start : tie.Else2 → tie.Start
+start c = c .before .before .before .before .before .before .before .before .before .before .before .before .before .before .before
+
+-- a round can ask for the mode of member i, so its rows lie within the link words
+ask : (c : tie.Else2) → asked (start c .args .ms .now) (c .before .mode-of .result) ≡ true
+ask c =
+    let b1 = c .before in
+    let b2 = b1 .before in
+    let b4 = b2 .before .before in
+    asked-ex _ _ _ _ (start c .pre .1 .0 .0) (b2 .arg .ensures) (sym (b4 .tag .ensures) ∙ b2 .before .if1 .taken) (mode-one (b1 .mode-of .ensures) (c .if2 .left))
+
+room : (c : tie.Else2) → getD (start c .args .lw .now) (c .before .mode-of .result) 0 + start c .args .w * 64 * start c .args .w ≤ length (start c .args .lw .now)
+room c = start c .pre .0 .rows .room _ (c .if2 .left) (ask c)
 
 mul-x : tie.Need-mul-x
 mul-x c =
@@ -39,16 +57,46 @@ returns c =
     let b15 = b9 .before .before .before .before .before .before in
     kept-wide (b15 .pre .0) _ (b15 .pre .1 .0 .0) (b15 .args .src .now) _ (λ k l. b9 .slice-known .given k .fits) (b15 .pre .1 .1) _ (sym (b4 .tag .ensures) ∙ b3 .if1 .taken) (b2 .arg .ensures) (mode-wide (b1 .mode-of .ensures) (c .if2 .taken))
 
+mul-at : tie.Need-mul-at
+mul-at c = (let h = c .if2 .left in omega arith)
+
+shared-slice-read-at : tie.Need-shared-slice-read-at
+shared-slice-read-at c =
+    let b1 = c .before in
+    let b16 = b1 .before .before .before .before .before .before .before .before .before .before .before .before .before .before .before in
+    (let h = b1 .if2 .left in let k = b16 .pre .0 .rows .head in omega arith)
+
+mul-confine-linked : tie.Need-mul-confine-linked
+mul-confine-linked c =
+    let b3 = c .before .before .before in
+    let b18 = b3 .before .before .before .before .before .before .before .before .before .before .before .before .before .before .before in
+    omega (arith, b18 .good .1 .1 .1 .1 .0, room b3)
+
+sub-confine-linked : tie.Need-sub-confine-linked
+sub-confine-linked c =
+    let b3 = c .before .before .before in
+    omega (arith, room b3)
+
+part-confine-linked-start : tie.Need-part-confine-linked-start
+part-confine-linked-start c =
+    let b3 = c .before .before .before in
+    omega (arith, room b3)
+
+part-confine-linked-end : tie.Need-part-confine-linked-end
+part-confine-linked-end c =
+    let b3 = c .before .before .before in
+    omega (arith, room b3)
+
 left-requires : tie.Need-left-requires
 left-requires c κs = search needs
 
 confine-linked-requires : tie.Need-confine-linked-requires
 confine-linked-requires c κs =
-    let b3 = c .before .before .before in
-    let b6 = b3 .before .before .before in
-    let b7 = b6 .before in
-    let b18 = b7 .before .before .before .before .before .before .before .before .before .before .before in
-    ((b18 .pre .0 .rows .room, b18 .pre .0 .small, b3 .if2 .left, block-fits _ _ _ _ (b18 .pre .1 .0 .0) (b18 .pre .0 .truths .room), block-fits _ _ _ _ (left-is (b18 .pre .0 .table) _ (b18 .pre .1 .0 .0) (let g = b7 .tag .ensures in let e = b6 .if1 .taken in omega arith) (c .left .ensures)) (b18 .pre .0 .truths .room)), (b18 .pre .1 .0 .2, b18 .pre .1 .0 .5, b18 .pre .1 .0 .1))
+    let b5 = c .before .before .before .before .before in
+    let b8 = b5 .before .before .before in
+    let b9 = b8 .before in
+    let b20 = b9 .before .before .before .before .before .before .before .before .before .before .before in
+    ((tail-room _ _ (b20 .args .lw .now) (room b5), b20 .pre .0 .small, block-fits _ _ _ _ (b20 .pre .1 .0 .0) (b20 .pre .0 .truths .room), block-fits _ _ _ _ (left-is (b20 .pre .0 .table) _ (b20 .pre .1 .0 .0) (let g = b9 .tag .ensures in let e = b8 .if1 .taken in omega arith) (c .left .ensures)) (b20 .pre .0 .truths .room)), (b20 .pre .1 .0 .2, b20 .pre .1 .0 .5, b20 .pre .1 .0 .1))
 
 same-length : tie.Need-same-length
 same-length c =
@@ -64,14 +112,14 @@ returns-2 : tie.Need-returns-2
 returns-2 c =
     let b4 = c .before .before .before .before in
     let b5 = b4 .before in
-    let b8 = b5 .before .before .before in
-    let b9 = b8 .before in
-    let b10 = b9 .before in
+    let b10 = b5 .before .before .before .before .before in
     let b11 = b10 .before in
     let b12 = b11 .before in
-    let b23 = b12 .before .before .before .before .before .before .before .before .before .before .before in
-    kept-ex (b23 .pre .0) _ (b23 .pre .1 .0 .0) (b23 .args .src .now) _ _ _ (b4 .confine-linked .ensures) _ _ (b23 .pre .1 .1) (sym (b12 .tag .ensures) ∙ b11 .if1 .taken) (b10 .arg .ensures) (mode-single (b9 .mode-of .ensures) (b8 .if2 .left)) (b5 .left .ensures)
-    (λ t l. meets-next (b23 .pre .0) _ t _ _ _ l (b8 .if2 .left) (left-is (b23 .pre .0 .table) _ (b23 .pre .1 .0 .0) (let g = b12 .tag .ensures in let e = b11 .if1 .taken in omega arith) (b5 .left .ensures)) (mode-one (b9 .mode-of .ensures) (b8 .if2 .left)))
+    let b13 = b12 .before in
+    let b14 = b13 .before in
+    let b25 = b14 .before .before .before .before .before .before .before .before .before .before .before in
+    kept-ex (b25 .pre .0) _ (b25 .pre .1 .0 .0) (b25 .args .src .now) _ _ _ (b4 .confine-linked .ensures) _ _ (b25 .pre .1 .1) (sym (b14 .tag .ensures) ∙ b13 .if1 .taken) (b12 .arg .ensures) (mode-single (b11 .mode-of .ensures) (b10 .if2 .left)) (b5 .left .ensures)
+    (λ t l. meets-next (b25 .pre .0) _ _ t _ _ _ (tail (getD (b25 .args .lw .now) (b11 .mode-of .result) 0) (b25 .args .lw .now)) l (b10 .if2 .left) (ask b10) (left-is (b25 .pre .0 .table) _ (b25 .pre .1 .0 .0) (let g = b14 .tag .ensures in let e = b13 .if1 .taken in omega arith) (b5 .left .ensures)) (mode-one (b11 .mode-of .ensures) (b10 .if2 .left)))
 
 returns-3 : tie.Need-returns-3
 returns-3 c =
@@ -130,6 +178,12 @@ eliminate-member-spec =
     arg-requires
     mode-of-requires
     returns
+    mul-at
+    shared-slice-read-at
+    mul-confine-linked
+    sub-confine-linked
+    part-confine-linked-start
+    part-confine-linked-end
     left-requires
     confine-linked-requires
     same-length

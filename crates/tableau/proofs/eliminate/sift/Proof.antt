@@ -4,7 +4,7 @@ use mathlib.Core.Bool.{_&&_}
 use native.Mathlib.Omega.{arith}
 use borrow.Author.Needs.{needs}
 use Rattle.wordset.specs.Words.{member}
-use Rattle.tableau.proofs.Asks.{pass-au, pass-eu, steps-is}
+use Rattle.tableau.proofs.Asks.{asked-eu, pass-au, pass-eu, steps-is}
 use Rattle.tableau.proofs.eliminate.sift.Statement.{statement}
 use Rattle.tableau.proofs.eliminate.sift.Tie as tie
 
@@ -22,8 +22,10 @@ arg-requires c κs = search needs
 
 step-requires : tie.Need-step-requires
 step-requires c κs =
-    let b13 = c .before .before .before .before .before .before .before .before .before .before .before .before .before in
-    ((b13 .pre .0 .rows .room, b13 .pre .0 .small, (let e = c .arg .ensures in omega arith)), (b13 .pre .1 .0 .2, b13 .pre .1 .0 .3, b13 .pre .1 .0 .1))
+    let b3 = c .before .before .before in
+    let b4 = b3 .before in
+    let b13 = b4 .before .before .before .before .before .before .before .before .before in
+    ((b13 .pre .0 .rows .head, b13 .pre .0 .small, (let e = c .arg .ensures in omega arith)), ((λ m h k. b13 .pre .0 .rows .room m h (asked-eu _ _ m _ (b13 .pre .1 .0 .0) (c .arg .ensures) (sym (b4 .tag .ensures) ∙ b3 .if1 .taken) k)), (b13 .pre .1 .0 .2, b13 .pre .1 .0 .3, b13 .pre .1 .0 .1)))
 
 same-length : tie.Need-same-length
 same-length c = search needs
@@ -38,7 +40,7 @@ returns c =
     let b8 = b5 .before .before .before in
     let b9 = b8 .before in
     let b18 = b9 .before .before .before .before .before .before .before .before .before in
-    λ t l. b4 .step .ensures t l ∙ ap (λ x. member (b18 .args .todo .now) t && x) (pass-eu (b18 .pre .0) _ t _ (b18 .pre .1 .0 .0) _ _ (sym (b9 .tag .ensures) ∙ b8 .if1 .taken) (b5 .arg .ensures) (steps-is (b18 .pre .0) _ t _ l))
+    λ t l. b4 .step .ensures t l ∙ ap (λ x. member (b18 .args .todo .now) t && x) (pass-eu (b18 .pre .0) _ t _ (b18 .pre .1 .0 .0) _ _ (sym (b9 .tag .ensures) ∙ b8 .if1 .taken) (b5 .arg .ensures) (steps-is (b18 .pre .0) _ t _ l (λ m k. asked-eu _ _ m _ (b18 .pre .1 .0 .0) (b5 .arg .ensures) (sym (b9 .tag .ensures) ∙ b8 .if1 .taken) k)))
 
 arg-requires-2 : tie.Need-arg-requires-2
 arg-requires-2 c κs = search needs

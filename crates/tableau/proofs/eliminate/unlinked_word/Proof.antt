@@ -16,10 +16,10 @@ use Rattle.tableau.proofs.eliminate.unlinked_word.Statement.{statement}
 use Rattle.tableau.proofs.eliminate.unlinked_word.Tie as tie
 
 abbrev Inv-loop : tie.InvT-loop
-Inv-loop lw w m j y k x acc₀ rest₀ acc rest = Sifting (λ b. not (meetsAt w lw m j y (k * 64 + b))) x rest acc
+Inv-loop rows w j y k x acc₀ rest₀ acc rest = Sifting (λ b. not (meetsAt w rows j y (k * 64 + b))) x rest acc
 
 abbrev μ-loop : tie.MeasureT-loop
-μ-loop lw w m j y k x acc₀ rest₀ acc rest = rest
+μ-loop rows w j y k x acc₀ rest₀ acc rest = rest
 
 -- the lowest type that is still to come, and the place of its word at j
 abbrev zeros : tie.In-loop Inv-loop μ-loop → ℕ
@@ -28,13 +28,13 @@ zeros c = trailingZeros 64 (c .before .loop .rest)
 low : (c : tie.In-loop Inv-loop μ-loop) → (zeros c < 64) × (bit (c .before .loop .rest) (zeros c) ≡ true)
 low c = lowest 64 _ (omega arith) (c .before .loop .inv .fits) (c .loop-test .taken)
 
-place : (lw : List ℕ) (w m k j b : ℕ) → w * 1024 * w ≤ length lw → m < 16 → k < w → j < w → b < 64 → ((k * 64 + b) * 16 + m) * w + j < length lw
-place lw w m k j b h i g f l = slot w ((k * 64 + b) * 16 + m) (w * 1024) j (length lw) (omega arith) h f
+place : (rows : List ℕ) (w k j b : ℕ) → w * 64 * w ≤ length rows → k < w → j < w → b < 64 → (k * 64 + b) * w + j < length rows
+place rows w k j b h g f l = slot w (k * 64 + b) (w * 64) j (length rows) (omega arith) h f
 
-at : (c : tie.In-loop Inv-loop μ-loop) → ((c .before .before .before .args .k * 64 + zeros c) * 16 + c .before .before .before .args .m) * c .before .before .before .args .w + c .before .before .before .args .j < length (c .before .before .before .args .lw .now)
+at : (c : tie.In-loop Inv-loop μ-loop) → (c .before .before .before .args .k * 64 + zeros c) * c .before .before .before .args .w + c .before .before .before .args .j < length (c .before .before .before .args .rows .now)
 at c =
     let b3 = c .before .before .before in
-    place (b3 .args .lw .now) (b3 .args .w) (b3 .args .m) (b3 .args .k) (b3 .args .j) (zeros c) (b3 .pre .0) (b3 .pre .2) (b3 .pre .4) (b3 .pre .3) (low c .0)
+    place (b3 .args .rows .now) (b3 .args .w) (b3 .args .k) (b3 .args .j) (zeros c) (b3 .pre .0) (b3 .pre .3) (b3 .pre .2) (low c .0)
 
 loop-holds : tie.Need-loop-holds Inv-loop μ-loop
 loop-holds c =
@@ -47,30 +47,20 @@ cast-b c = omega (arith, low c .0)
 mul-at : tie.Need-mul-at Inv-loop μ-loop
 mul-at c =
     let b3 = c .before .before .before in
-    omega (arith, b3 .pre .1, b3 .pre .4)
+    omega (arith, b3 .pre .1, b3 .pre .3)
 
 add-at : tie.Need-add-at Inv-loop μ-loop
 add-at c =
     let b3 = c .before .before .before in
-    omega (arith, low c .0, b3 .pre .1, b3 .pre .4)
+    omega (arith, low c .0, b3 .pre .1, b3 .pre .3)
 
 mul-at-2 : tie.Need-mul-at-2 Inv-loop μ-loop
 mul-at-2 c =
     let b3 = c .before .before .before in
-    omega (arith, low c .0, b3 .pre .1, b3 .pre .4)
+    (let q = at c in omega (arith, b3 .pre .1))
 
 add-at-2 : tie.Need-add-at-2 Inv-loop μ-loop
 add-at-2 c =
-    let b3 = c .before .before .before in
-    omega (arith, low c .0, b3 .pre .1, b3 .pre .4, b3 .pre .2)
-
-mul-at-3 : tie.Need-mul-at-3 Inv-loop μ-loop
-mul-at-3 c =
-    let b3 = c .before .before .before in
-    (let q = at c in omega (arith, b3 .pre .1))
-
-add-at-3 : tie.Need-add-at-3 Inv-loop μ-loop
-add-at-3 c =
     let b3 = c .before .before .before in
     (let q = at c in omega (arith, b3 .pre .1))
 
@@ -99,13 +89,13 @@ loop-again c =
     let b2 = b1 .before in
     let b3 = b2 .before in
     let b5 = b3 .before .before in
-    sift-next (b3 .loop .inv) (b2 .loop-test .taken) _ _ (apart-at (b5 .args .w) (b5 .args .lw .now) (b5 .args .m) (b5 .args .j) (b5 .args .y) (b5 .args .k * 64 + zeros (c .before .before)) (b5 .fits .y .fits) (b1 .shared-slice-known2 .given _ .fits) _ refl) (c .join-if .ensures .0) (c .join-if .ensures .1)
+    sift-next (b3 .loop .inv) (b2 .loop-test .taken) _ _ (apart-at (b5 .args .w) (b5 .args .rows .now) (b5 .args .j) (b5 .args .y) (b5 .args .k * 64 + zeros (c .before .before)) (b5 .fits .y .fits) (b1 .shared-slice-known2 .given _ .fits) _ refl) (c .join-if .ensures .0) (c .join-if .ensures .1)
 
 returns : tie.Need-returns Inv-loop μ-loop
 returns c =
     let b1 = c .before in
     let b3 = b1 .before .before in
-    λ P a. sift-end (b1 .loop .inv) P (λ t. not (meetsAt (b3 .args .w) (b3 .args .lw .now) (b3 .args .m) (b3 .args .j) (b3 .args .y) t)) _ (c .loop-test .left) (λ b. refl) a
+    λ P a. sift-end (b1 .loop .inv) P (λ t. not (meetsAt (b3 .args .w) (b3 .args .rows .now) (b3 .args .j) (b3 .args .y) t)) _ (c .loop-test .left) (λ b. refl) a
 
 pub unlinked-word-spec : {M : Type 1} → statement M
 unlinked-word-spec =
@@ -119,8 +109,6 @@ unlinked-word-spec =
     add-at
     mul-at-2
     add-at-2
-    mul-at-3
-    add-at-3
     sub-next
     mul-join-if
     shared-slice-read-join-if

@@ -1,98 +1,143 @@
--- `link_words` meets its contract: the first i blocks are done, and the first k words of block i. Assumes nothing.
-use mathlib.Core.Path.{sym}
-use Prim.Native.Nat.{_-_, _*_, _/_, _%_}
+-- `link_words` meets its contract: the rows of the modes below m are done, and the next rows begin at `at`. Assumes nothing.
+use mathlib.Core.Path.{_≡_, sym, _∙_}
+use mathlib.Core.Bool.{true}
+use mathlib.Core.Logic.{⊎-elim}
+use Prim.Native.Nat.{_+_, _-_, _*_, _≤_}
 use native.Mathlib.Omega.{arith}
+use lib.ListN.{length, set, length-set}
 use borrow.Author.Needs.{needs}
-use Rattle.tableau.specs.Links.{Lk}
-use Rattle.tableau.proofs.BlockLaws.{Filled, fill-at, fill-block, fill-from, fill-start, fill-word, word-as}
-use Rattle.tableau.proofs.LinkWords.{row-mode, rows-done}
+use Rattle.tableau.specs.Links.{asked}
+use Rattle.tableau.proofs.AskedModes.{room-small}
+use Rattle.tableau.proofs.RowPlaces.{Listed, listed-as, listed-end, listed-on, listed-room, listed-skip, listed-start, part-room}
 use Rattle.tableau.proofs.links.link_words.Statement.{statement}
 use Rattle.tableau.proofs.links.link_words.Tie as tie
 
-abbrev Inv-loop2 : tie.InvT-loop2
-Inv-loop2 ms ln tw lw₀ w n i f back t k₀ lw k = Filled (λ j u. Lk ms ln (j % 16) (j / 16) u) w (w * 1024) lw₀ lw i k
-
-abbrev μ-loop2 : tie.MeasureT-loop2
-μ-loop2 ms ln tw lw₀ w n i f back t k₀ lw k = w - k
-
 abbrev Inv-loop : tie.InvT-loop
-Inv-loop ms ln tw lw₀ w n i₀ lw i = Filled (λ j u. Lk ms ln (j % 16) (j / 16) u) w (w * 1024) lw₀ lw i 0
+Inv-loop ms ln tw lw₀ w a n at₀ m₀ lw at m = Listed ms ln w lw₀ lw at m
 
 abbrev μ-loop : tie.MeasureT-loop
-μ-loop ms ln tw lw₀ w n i₀ lw i = n - i
+μ-loop ms ln tw lw₀ w a n at₀ m₀ lw at m = 16 - m
 
-mul-n : tie.Need-mul-n Inv-loop2 μ-loop2 Inv-loop μ-loop
-mul-n c = search needs
+abbrev start : tie.After-has-mode Inv-loop μ-loop → tie.Start Inv-loop μ-loop
+start c = c .before .before .before .before .before .before .before .before
 
-loop-holds : tie.Need-loop-holds Inv-loop2 μ-loop2 Inv-loop μ-loop
-loop-holds c =
+-- the mode is asked for
+on : (c : tie.Then1 Inv-loop μ-loop) → asked (start (c .before) .args .ms .now) (c .before .before .before .loop .m) ≡ true
+on c =
     let b4 = c .before .before .before .before in
-    fill-start (b4 .pre .1 .1 .0)
+    sym (b4 .asked-modes .ensures .1 (c .before .before .before .loop .m)) ∙ sym (c .before .has-mode .ensures) ∙ c .if1 .taken
 
-loop2-holds : tie.Need-loop2-holds Inv-loop2 μ-loop2 Inv-loop μ-loop
-loop2-holds c = fill-from (c .before .loop .inv) (sym (c .before .loop .inv .long))
+-- there is room for its rows
+room : (c : tie.Then1 Inv-loop μ-loop)
+    → (16 ≤ c .before .before .before .loop .at) × (c .before .before .before .loop .at + start (c .before) .args .w * 64 * start (c .before) .args .w ≤ length (c .before .before .before .loop .lw))
+room c = listed-room (c .before .before .before .loop .inv) (c .before .before .loop-test .taken) (on c) (start (c .before) .pre .1 .1 .0)
 
-link-word-requires : tie.Need-link-word-requires Inv-loop2 μ-loop2 Inv-loop μ-loop
-link-word-requires c κs =
-    let b8 = c .before .before .before .before .before .before .before .before in
-    (b8 .pre .0, (b8 .pre .1 .0, (omega arith, omega arith, omega arith)))
+asked-modes-requires : tie.Need-asked-modes-requires Inv-loop μ-loop
+asked-modes-requires c κs = search needs
 
-mul-at : tie.Need-mul-at Inv-loop2 μ-loop2 Inv-loop μ-loop
-mul-at c = omega (arith, fill-at (c .before .before .loop2 .inv) (c .before .before .before .loop-test .taken) (c .before .loop2-test .taken))
+mul-n : tie.Need-mul-n Inv-loop μ-loop
+mul-n c = omega (arith, c .before .before .before .before .before .pre .1 .1 .1)
 
-add-at : tie.Need-add-at Inv-loop2 μ-loop2 Inv-loop μ-loop
-add-at c = omega (arith, fill-at (c .before .before .loop2 .inv) (c .before .before .before .loop-test .taken) (c .before .loop2-test .taken))
+mul-n-2 : tie.Need-mul-n-2 Inv-loop μ-loop
+mul-n-2 c =
+    let b5 = c .before .before .before .before .before in
+    let s = room-small 0 (b5 .args .w) (omega arith) (b5 .pre .1 .1 .1) .0 in
+    omega arith
 
-mul-lw : tie.Need-mul-lw Inv-loop2 μ-loop2 Inv-loop μ-loop
-mul-lw c = omega (arith, fill-at (c .before .before .loop2 .inv) (c .before .before .before .loop-test .taken) (c .before .loop2-test .taken))
+loop-holds : tie.Need-loop-holds Inv-loop μ-loop
+loop-holds c = listed-start
 
-slice-write-lw : tie.Need-slice-write-lw Inv-loop2 μ-loop2 Inv-loop μ-loop
-slice-write-lw c = omega (arith, fill-at (c .before .before .loop2 .inv) (c .before .before .before .loop-test .taken) (c .before .loop2-test .taken))
+has-mode-requires : tie.Need-has-mode-requires Inv-loop μ-loop
+has-mode-requires c κs = c .loop-test .taken
 
-add-k : tie.Need-add-k Inv-loop2 μ-loop2 Inv-loop μ-loop
-add-k c = search needs
+mul-lw : tie.Need-mul-lw Inv-loop μ-loop
+mul-lw c = omega (arith, c .before .before .loop-test .taken)
 
-loop2-less : tie.Need-loop2-less Inv-loop2 μ-loop2 Inv-loop μ-loop
-loop2-less c = search needs
+slice-write-lw : tie.Need-slice-write-lw Inv-loop μ-loop
+slice-write-lw c = omega (arith, c .before .before .loop-test .taken, room c .0, room c .1)
 
-loop2-again : tie.Need-loop2-again Inv-loop2 μ-loop2 Inv-loop μ-loop
-loop2-again c = fill-word (c .before .before .loop2 .inv) (c .before .before .before .loop-test .taken) (c .before .loop2-test .taken) (word-as (λ u. row-mode _ _ _ _ u) (c .link-word .ensures))
+mul-mode-rows : tie.Need-mul-mode-rows Inv-loop μ-loop
+mul-mode-rows c = let l = c .before .before .before .loop .inv .long in omega (arith, room c .1, start (c .before) .good .1 .1 .1 .0)
 
-add-i : tie.Need-add-i Inv-loop2 μ-loop2 Inv-loop μ-loop
-add-i c = search needs
+sub-mode-rows : tie.Need-sub-mode-rows Inv-loop μ-loop
+sub-mode-rows c =
+    let b3 = c .before .before .before in
+    let l = length-set (b3 .loop .lw) (b3 .loop .m) (b3 .loop .at) in
+    omega (arith, room c .1)
 
-loop-less : tie.Need-loop-less Inv-loop2 μ-loop2 Inv-loop μ-loop
-loop-less c = search needs
+part-mode-rows-start : tie.Need-part-mode-rows-start Inv-loop μ-loop
+part-mode-rows-start c =
+    let b3 = c .before .before .before in
+    let l = length-set (b3 .loop .lw) (b3 .loop .m) (b3 .loop .at) in
+    omega (arith, room c .1)
 
-loop-again : tie.Need-loop-again Inv-loop2 μ-loop2 Inv-loop μ-loop
-loop-again c = fill-block (fill-from (c .before .loop2 .inv) (c .before .before .before .loop .inv .long)) (c .before .before .loop-test .taken) (c .loop2-test .left)
+part-mode-rows-end : tie.Need-part-mode-rows-end Inv-loop μ-loop
+part-mode-rows-end c =
+    let b3 = c .before .before .before in
+    let l = length-set (b3 .loop .lw) (b3 .loop .m) (b3 .loop .at) in
+    omega (arith, room c .1)
 
-same-length : tie.Need-same-length Inv-loop2 μ-loop2 Inv-loop μ-loop
+mode-rows-requires : tie.Need-mode-rows-requires Inv-loop μ-loop
+mode-rows-requires c κs =
+    let b1 = c .before in
+    let b4 = b1 .before .before .before in
+    let p = start (b1 .before) .pre in
+    let r = room b1 .1 in
+    let l = length-set (b4 .loop .lw) (b4 .loop .m) (b4 .loop .at) in
+    (p .0, (p .1 .0, (part-room (set (b4 .loop .lw) (b4 .loop .m) (b4 .loop .at)) (b4 .loop .at) (start (b1 .before) .args .w * 64 * start (b1 .before) .args .w) (omega arith), p .1 .1 .1, b1 .before .before .loop-test .taken)))
+
+add-at : tie.Need-add-at Inv-loop μ-loop
+add-at c =
+    let b4 = c .before .before .before .before in
+    let l = b4 .before .before .before .loop .inv .long in
+    omega (arith, room b4 .1, start (b4 .before) .good .1 .1 .1 .0)
+
+add-m : tie.Need-add-m Inv-loop μ-loop
+add-m c = omega (arith, c .before .before .loop-test .taken)
+
+loop-less : tie.Need-loop-less Inv-loop μ-loop
+loop-less c = omega (arith, c .before .before .loop-test .taken)
+
+loop-again : tie.Need-loop-again Inv-loop μ-loop
+loop-again c =
+    let b1 = c .before in
+    let b3 = b1 .before .before in
+    let p = start b1 .pre in
+    let h = b1 .before .loop-test .taken in
+    let k = b3 .before .asked-modes .ensures .1 (b3 .loop .m) in
+    ⊎-elim
+    (λ a. listed-as (listed-on (b3 .loop .inv) h (sym k ∙ sym (b1 .has-mode .ensures) ∙ a .0 .taken) (p .1 .1 .0) (a .2 .last .1 .1 .1 .0) (a .2 .kept .1 .1 .1 .0) (a .2 .ensures)) (a .5) (a .6))
+    (λ a. listed-as (listed-skip (b3 .loop .inv) h (sym k ∙ sym (b1 .has-mode .ensures) ∙ a .0 .left)) (a .1) (a .2))
+    (c .if1 .came)
+
+same-length : tie.Need-same-length Inv-loop μ-loop
 same-length c = c .before .loop .inv .long
 
-returns : tie.Need-returns Inv-loop2 μ-loop2 Inv-loop μ-loop
-returns c = rows-done (c .before .loop .inv) (c .loop-test .left)
+returns : tie.Need-returns Inv-loop μ-loop
+returns c =
+    let b7 = c .before .before .before .before .before .before .before in
+    listed-end (c .before .loop .inv) (c .loop-test .left) (b7 .pre .1 .1 .0)
 
 pub link-words-spec : {M : Type 1} → statement M
 link-words-spec =
     tie.close
     (tie.spec
-    Inv-loop2
-    μ-loop2
     Inv-loop
     μ-loop
+    asked-modes-requires
     mul-n
+    mul-n-2
     loop-holds
-    loop2-holds
-    link-word-requires
-    mul-at
-    add-at
+    has-mode-requires
     mul-lw
     slice-write-lw
-    add-k
-    loop2-less
-    loop2-again
-    add-i
+    mul-mode-rows
+    sub-mode-rows
+    part-mode-rows-start
+    part-mode-rows-end
+    mode-rows-requires
+    add-at
+    add-m
     loop-less
     loop-again
     same-length
