@@ -1,11 +1,9 @@
 //! inside SHEET...: for each sheet, the shortest time of a verdict and of naming 0's table, in nanoseconds, in one process, so that
-//! the start of a process does not hide the work. A line for each sheet: `PATH verdict PROVED ALL ASKED table PROVED ALL ASKED`,
-//! where ALL is plain Rust that fills all link rows, as the proved library does, and ASKED plain Rust that fills those that are
-//! asked for. They are asked first for the verdict and for the tables of the first namings, and must agree.
+//! the start of a process does not hide the work. A line for each sheet: `PATH verdict PROVED PLAIN table PROVED PLAIN`. They are asked
+//! first for the verdict and for the tables of the first namings, and must agree.
 
 mod proved;
 
-use plain::Rows;
 use std::hint::black_box;
 use std::time::{Duration, Instant};
 
@@ -16,21 +14,16 @@ const BATCHES: usize = 50;
 fn main() {
     for path in std::env::args().skip(1) {
         let sheet = std::fs::read(&path).expect("a sheet's path");
-        agree(&sheet, Rows::Asked);
-        agree(&sheet, Rows::All);
-        let verdict = race([
+        agree(&sheet);
+        let [a, b] = race([
             &|| consume(proved::verdict(black_box(&sheet))),
-            &|| consume(plain::verdict(black_box(&sheet), Rows::All)),
-            &|| consume(plain::verdict(black_box(&sheet), Rows::Asked)),
+            &|| consume(plain::verdict(black_box(&sheet))),
         ]);
-        let table = race([
+        let [c, d] = race([
             &|| consume(proved::table(black_box(&sheet), 0)),
-            &|| consume(plain::table(black_box(&sheet), 0, Rows::All)),
-            &|| consume(plain::table(black_box(&sheet), 0, Rows::Asked)),
+            &|| consume(plain::table(black_box(&sheet), 0)),
         ]);
-        let [a, b, c] = verdict;
-        let [d, e, f] = table;
-        println!("{path} verdict {a:.0} {b:.0} {c:.0} table {d:.0} {e:.0} {f:.0}");
+        println!("{path} verdict {a:.0} {b:.0} table {c:.0} {d:.0}");
     }
 }
 
@@ -40,8 +33,8 @@ fn consume<T>(answer: T) {
 }
 
 /// The answers of both are the same, for the verdict and for the table of the first 64 namings.
-fn agree(sheet: &[u8], rows: Rows) {
-    let verdict = plain::verdict(sheet, rows).map(|verdict| match verdict {
+fn agree(sheet: &[u8]) {
+    let verdict = plain::verdict(sheet).map(|verdict| match verdict {
         plain::Verdict::Open { naming, least } => [1, naming, least as u64],
         plain::Verdict::Unsatisfiable => [0, 0, 0],
     });
@@ -50,7 +43,7 @@ fn agree(sheet: &[u8], rows: Rows) {
         verdict.map_err(|refusal| refusal as u8)
     );
     for naming in 0..64 {
-        let table = plain::table(sheet, naming, rows).map(|table| {
+        let table = plain::table(sheet, naming).map(|table| {
             let counts = [table.start, table.left, table.rounds].map(u64::from);
             (table.words, counts)
         });
@@ -61,11 +54,11 @@ fn agree(sheet: &[u8], rows: Rows) {
 }
 
 /// The shortest time of each for one call, in nanoseconds, in turn.
-fn race(calls: [&dyn Fn(); 3]) -> [f64; 3] {
+fn race(calls: [&dyn Fn(); 2]) -> [f64; 2] {
     let turns = calls.map(turns);
-    let mut shortest = [f64::MAX; 3];
+    let mut shortest = [f64::MAX; 2];
     for _ in 0..BATCHES {
-        for i in 0..3 {
+        for i in 0..2 {
             shortest[i] = shortest[i].min(batch(calls[i], turns[i]));
         }
     }

@@ -29,15 +29,6 @@ pub enum Refusal {
     Naming,
 }
 
-/// Which link rows are filled. The answers are the same.
-#[derive(Clone, Copy, PartialEq, Eq, Debug)]
-pub enum Rows {
-    /// Those that a round can ask for, by rules that are gathered once for each mode: what an engineer would write.
-    Asked,
-    /// All of them, every member asked for every word: what the proved code does, so the rest of a difference is the language's.
-    All,
-}
-
 #[derive(Clone, Copy, PartialEq, Eq, Debug)]
 pub enum Verdict {
     Open { naming: u64, least: usize },
@@ -89,17 +80,17 @@ pub fn read(bytes: &[u8]) -> Result<Reading, Refusal> {
 }
 
 /// The least naming under which a standing type has the goal, with the least such type.
-pub fn verdict(bytes: &[u8], rows: Rows) -> Result<Verdict, Refusal> {
+pub fn verdict(bytes: &[u8]) -> Result<Verdict, Refusal> {
     let reading = read(bytes)?;
     Ok(match reading.lean.len() {
-        0..=6 => judge::<1>(&reading, rows),
-        7 => judge::<2>(&reading, rows),
-        _ => judge::<4>(&reading, rows),
+        0..=6 => judge::<1>(&reading),
+        7 => judge::<2>(&reading),
+        _ => judge::<4>(&reading),
     })
 }
 
-fn judge<const W: usize>(reading: &Reading, rows: Rows) -> Verdict {
-    let tableau = Tableau::<W>::new(reading, rows);
+fn judge<const W: usize>(reading: &Reading) -> Verdict {
+    let tableau = Tableau::<W>::new(reading);
     for naming in 0..reading.namings() {
         let settled = tableau.settle(naming);
         if let Some(least) = tableau.goal_type(&settled.standing) {
@@ -110,20 +101,20 @@ fn judge<const W: usize>(reading: &Reading, rows: Rows) -> Verdict {
 }
 
 /// The standing types under one naming.
-pub fn table(bytes: &[u8], naming: u64, rows: Rows) -> Result<Table, Refusal> {
+pub fn table(bytes: &[u8], naming: u64) -> Result<Table, Refusal> {
     let reading = read(bytes)?;
     if naming >= reading.namings() {
         return Err(Refusal::Naming);
     }
     Ok(match reading.lean.len() {
-        0..=6 => settled::<1>(&reading, naming, rows),
-        7 => settled::<2>(&reading, naming, rows),
-        _ => settled::<4>(&reading, naming, rows),
+        0..=6 => settled::<1>(&reading, naming),
+        7 => settled::<2>(&reading, naming),
+        _ => settled::<4>(&reading, naming),
     })
 }
 
-fn settled<const W: usize>(reading: &Reading, naming: u64, rows: Rows) -> Table {
-    let settled = Tableau::<W>::new(reading, rows).settle(naming);
+fn settled<const W: usize>(reading: &Reading, naming: u64) -> Table {
+    let settled = Tableau::<W>::new(reading).settle(naming);
     let mut words = [0; 4];
     words[..W].copy_from_slice(&settled.standing);
     Table {
@@ -135,13 +126,13 @@ fn settled<const W: usize>(reading: &Reading, naming: u64, rows: Rows) -> Table 
 }
 
 /// What the program prints of a sheet.
-pub fn program(bytes: &[u8], rows: Rows) -> Vec<u8> {
+pub fn program(bytes: &[u8]) -> Vec<u8> {
     match read(bytes) {
         Err(refusal) => format!("refused {}\n", refusal as u8).into_bytes(),
         Ok(reading) => match reading.lean.len() {
-            0..=6 => report::report::<1>(&reading, rows),
-            7 => report::report::<2>(&reading, rows),
-            _ => report::report::<4>(&reading, rows),
+            0..=6 => report::report::<1>(&reading),
+            7 => report::report::<2>(&reading),
+            _ => report::report::<4>(&reading),
         },
     }
 }

@@ -2,10 +2,10 @@
 
 use crate::family;
 use crate::tableau::Tableau;
-use crate::{Reading, Rows, Verdict};
+use crate::{Reading, Verdict};
 
-pub fn report<const W: usize>(reading: &Reading, rows: Rows) -> Vec<u8> {
-    let tableau = Tableau::<W>::new(reading, rows);
+pub fn report<const W: usize>(reading: &Reading) -> Vec<u8> {
+    let tableau = Tableau::<W>::new(reading);
     let mut out = Vec::with_capacity(8192);
     out.extend_from_slice(b"naming start left rounds\n");
     let mut verdict = Verdict::Unsatisfiable;

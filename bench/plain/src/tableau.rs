@@ -3,7 +3,7 @@
 use crate::closure::Member;
 use crate::family::{self, Family};
 use crate::formula::Modes;
-use crate::{Reading, Rows};
+use crate::Reading;
 
 /// What one naming comes to: how many types at the start and after how many rounds, and the standing types.
 #[derive(Clone, Copy)]
@@ -56,7 +56,7 @@ pub struct Tableau<const W: usize> {
 }
 
 impl<const W: usize> Tableau<W> {
-    pub fn new(reading: &Reading, rows: Rows) -> Self {
+    pub fn new(reading: &Reading) -> Self {
         let members = &reading.members[..];
         let truth = truth(members, &reading.lean);
         let (goal, globals) = reading.roots.split_last().expect("a sheet has a goal");
@@ -67,7 +67,7 @@ impl<const W: usize> Tableau<W> {
             });
         let nexts = nexts(members);
         Tableau {
-            links: links(members, &nexts, &truth, reading.lean.len(), rows),
+            links: links(members, &nexts, &truth, 1 << reading.lean.len()),
             nexts,
             untils: untils(members),
             base,
@@ -288,22 +288,8 @@ fn singles(modes: Modes) -> impl Iterator<Item = Modes> {
         .filter(move |mode| modes & mode != 0)
 }
 
-/// The link rows of each mode; none for a mode whose rows are left out.
-fn links<const W: usize>(
-    members: &[Member],
-    nexts: &[Next],
-    truth: &[Family<W>],
-    width: usize,
-    rows: Rows,
-) -> [Vec<Family<W>>; 16] {
-    match rows {
-        Rows::Asked => asked_links(members, nexts, truth, 1 << width),
-        Rows::All => all_links(members, truth),
-    }
-}
-
 /// Rows for the modes that an EX goes along: rounds ask for no others, since an EU or AU has EX over each of its modes.
-fn asked_links<const W: usize>(
+fn links<const W: usize>(
     members: &[Member],
     nexts: &[Next],
     truth: &[Family<W>],
@@ -315,75 +301,6 @@ fn asked_links<const W: usize>(
         true => (0..types).map(|t| row(&rules[mode], truth, t)).collect(),
         false => Vec::new(),
     })
-}
-
-/// Rows for all modes and for all types that the words have room for, every member asked for every word of them.
-fn all_links<const W: usize>(members: &[Member], truth: &[Family<W>]) -> [Vec<Family<W>>; 16] {
-    std::array::from_fn(|mode| {
-        let row = |t| std::array::from_fn(|k| link_word(members, truth, mode, t, k));
-        (0..W * 64).map(row).collect()
-    })
-}
-
-fn link_word<const W: usize>(
-    members: &[Member],
-    truth: &[Family<W>],
-    mode: usize,
-    t: usize,
-    k: usize,
-) -> u64 {
-    let words = members.iter().enumerate();
-    words.fold(u64::MAX, |word, (whole, &member)| {
-        word & rule_word(member, whole, truth, mode, t, k)
-    })
-}
-
-/// What one member asks of word k of a row.
-fn rule_word<const W: usize>(
-    member: Member,
-    whole: usize,
-    truth: &[Family<W>],
-    mode: usize,
-    t: usize,
-    k: usize,
-) -> u64 {
-    let forward = 1 << (mode % 8);
-    match member {
-        Member::Ex(modes, body) if modes == forward => {
-            side_word(whole, usize::from(body), truth, mode >= 8, t, k)
-        }
-        Member::Ax(modes, body) if modes == forward => {
-            side_word(whole, usize::from(body), truth, mode >= 8, t, k)
-        }
-        Member::Ax(modes, body) if modes == forward << 8 => {
-            side_word(whole, usize::from(body), truth, mode < 8, t, k)
-        }
-        Member::Au(modes, _, right)
-            if modes & (forward | forward << 8) == forward | forward << 8 =>
-        {
-            let right = &truth[usize::from(right)];
-            match family::has(&truth[whole], t) && !family::has(right, t) {
-                true => !truth[whole][k] | right[k],
-                false => u64::MAX,
-            }
-        }
-        _ => u64::MAX,
-    }
-}
-
-fn side_word<const W: usize>(
-    whole: usize,
-    body: usize,
-    truth: &[Family<W>],
-    back: bool,
-    t: usize,
-    k: usize,
-) -> u64 {
-    match back {
-        true if !family::has(&truth[body], t) => !truth[whole][k],
-        false if family::has(&truth[whole], t) => truth[body][k],
-        _ => u64::MAX,
-    }
 }
 
 fn row<const W: usize>(rules: &[Rule], truth: &[Family<W>], t: usize) -> Family<W> {
