@@ -1,19 +1,17 @@
 -- What is read off a sheet for judging it, once for all namings: what finding it asks, and what it gives; and what the words ask that are
 -- computed from it. Assumes nothing.
-use mathlib.Core.Bool.{true}
 use mathlib.Core.Path.{_≡_}
 use mathlib.Core.List.{List}
 use Prim.Native.Nat.{ℕ, _*_, _^_, _≤_, _<_, max}
 use lib.ListN.{length, getD, take}
 use Rattle.ctl.specs.Formula.{Form}
-use Rattle.ctl.specs.Modes.{single}
 use Rattle.ctl.specs.Positive.{positive}
 use Rattle.ctl.specs.Tableau.{Tableau, namings}
 use Rattle.sheet.specs.Refusal.{readRefusal}
 use Rattle.sheet.specs.Reading.{formulas, goalOf}
 use Rattle.tableau.specs.Links.{linkRoom}
 use Rattle.tableau.specs.Matches.{Matches}
-use Rattle.tableau.specs.Tables.{Leans, Table, argAt, form, tagAt}
+use Rattle.tableau.specs.Tables.{ExPlaced, Leans, Table, form}
 use Rattle.reader.specs.declared.Reading.{Reading}
 use Rattle.reader.specs.Reader.{Says}
 use Rattle.prepare.specs.Prepared.{kindsOf, leanOf, tableOf, tableauIn}
@@ -46,7 +44,7 @@ pub record Frames (ms ln kinds places globals names others : List ℕ) : Type 0 
 pub record Sound (ms ln globals : List ℕ) : Type 0 where
   pub table : Table ms
   pub leans : Leans ms ln
-  pub places : (i : ℕ) → i < length ms → tagAt ms i ≡ 6 → single (argAt ms i) ≡ true → (k : ℕ) × (k < length ln) × (getD ln k 0 ≡ i)
+  pub places : ExPlaced ms ln
   pub globals-in : (i : ℕ) → i < length globals → getD globals i 0 < length ms
 
 -- and what is given

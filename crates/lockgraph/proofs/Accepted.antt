@@ -29,7 +29,7 @@ use Rattle.frame.specs.SetUp.{Accepts, SetUp, frameIn, globalsIn, leanIn, membe
 use Rattle.frame.specs.declared.Setup.{Setup}
 use Rattle.frame.proofs.Stores.{fill-room, links-most}
 use Rattle.frame.proofs.VerdictLaws.{framed-verdict}
-use Rattle.lockgraph.specs.Outcomes.{wordsIn}
+use Rattle.lockgraph.specs.Outcomes.{TabledIn, bookStore, verdictIn, wordsIn}
 
 pub four : 4 ≤ 4
 four = omega arith
@@ -119,7 +119,7 @@ module _ {s : List ℕ} {u : Setup} (x : SetUp s u) (z : u .refusal ≡ 0) where
       start = startList (u .words) base (namesIn u) (othersIn u) r
 
       pub table-filled : {first second first′ second′ : List ℕ} {c : Counts} → Tabled start (Survivors (membersIn u) (leanIn u) start) (Rounds (membersIn u) (leanIn u) start) (u .words) first second first′ second′ c
-          → Tabled (startTypes S r) (survivingTypes S r) (roundsOf S r) (wordsIn s) first second first′ second′ c
+          → TabledIn s r first second first′ second′ c
       table-filled {first} {second} {first′} {second′} {c} t =
           subst (λ w. Tabled (startTypes S r) (survivingTypes S r) (roundsOf S r) w first second first′ second′ c) words-are
           (tabled (framed .matches) (u .words) base₀ base enough-base (f .1) (framed .enough) r t)
@@ -133,11 +133,10 @@ module _ {s : List ℕ} {u : Setup} (x : SetUp s u) (z : u .refusal ≡ 0) where
         → Ready (membersIn u) (leanIn u) (u .words) tw lw × (Places (namesIn u) (othersIn u) × ((u .words ≤ 4) × ((u .words ≤ length base) × (u .namings * u .words ≤ n))))
     book-asked n h = let w = few-words in (f .0, (framed .places-in, (w, (omega arith, h))))
 
-    pub book-filled : (d : List ℕ) {d′ : List ℕ} → d′ ≡ tablesBy (u .words) (λ r t. elem t (Survivors (membersIn u) (leanIn u) (startList (u .words) base (namesIn u) (othersIn u) r))) (u .namings) ++ drop (u .namings * u .words) d
-        → d′ ≡ tablesBy (wordsIn s) (λ r t. elem t (survivingTypes S r)) (u .namings) ++ drop (u .namings * wordsIn s) d
+    pub book-filled : (d : List ℕ) {d′ : List ℕ} → d′ ≡ tablesBy (u .words) (λ r t. elem t (Survivors (membersIn u) (leanIn u) (startList (u .words) base (namesIn u) (othersIn u) r))) (u .namings) ++ drop (u .namings * u .words) d → d′ ≡ bookStore s 0 d
     book-filled d e =
-        e ∙ ap₂ _++_ (tables-ext (u .words) _ _ (u .namings) (λ r t. ap (elem t) (survivors-are r)) ∙ ap (λ w. tablesBy w (λ r t. elem t (survivingTypes S r)) (u .namings)) words-are)
-        (ap (λ w. drop (u .namings * w) d) words-are)
+        e ∙ ap (λ l. l ++ drop (u .namings * u .words) d) (tables-ext (u .words) _ _ (u .namings) (λ r t. ap (elem t) (survivors-are r)))
+        ∙ ap₂ (λ w n. tablesBy w (λ r t. elem t (survivingTypes S r)) n ++ drop (n * w) d) words-are namings-are
 
     -- ---- judging
 
@@ -147,5 +146,6 @@ module _ {s : List ℕ} {u : Setup} (x : SetUp s u) (z : u .refusal ≡ 0) where
         let w = few-words in
         (f .0, (record { first-room = omega arith; second-room = omega arith; u-room = omega arith; todo-room = omega arith; v-room = omega arith }, (framed .places-in, (omega arith, framed .goal-inside))))
 
-    pub judged : {v : Verdict} → Judged (goalsAt (membersIn u) (leanIn u) (u .words) base (namesIn u) (othersIn u) (u .goal)) (u .namings) v → Ctl.verdict S (positive (goalOf (formulas s))) ≡ verdictOf v
+    pub judged : {v : Verdict} → Judged (goalsAt (membersIn u) (leanIn u) (u .words) base (namesIn u) (othersIn u) (u .goal)) (u .namings) v → verdictIn s ≡ verdictOf v
+    unfolding verdictIn
     judged j = framed-verdict framed base₀ enough-base (f .1) j

@@ -1,19 +1,17 @@
 -- What Book answers and leaves at each of its returns. Assumes nothing.
 use mathlib.Core.Path.{_≡_, refl, sym, ap, ap₂, _∙_}
 use mathlib.Core.Bool.{cond}
-use mathlib.Core.List.{List, _++_}
+use mathlib.Core.List.{List}
 use Prim.Native.Nat.{ℕ, _*_, _^_, _≤_, _<_}
 use native.Mathlib.Omega.{arith}
 use native.Mathlib.Nat.{mul-le-mul}
-use lib.ListN.{length, drop}
+use lib.ListN.{length}
 use borrow.Author.Tests.{le-ltb, lt-ltb}
-use Rattle.ctl.specs.Lists.{elem}
-use Rattle.booking.specs.Booked.{tablesBy}
 use Rattle.reader.specs.Reader.{refusalOf}
 use Rattle.frame.specs.SetUp.{SetUp}
 use Rattle.frame.specs.declared.Setup.{Setup}
 use Rattle.lockgraph.specs.declared.books.BookAnswer.the-variants.{Done, Refused}
-use Rattle.lockgraph.specs.Outcomes.{BookIs, bookAnswer, bookRefusal, bookStore, namingsIn, storeRefusal, survivorsIn, wordsIn}
+use Rattle.lockgraph.specs.Outcomes.{BookIs, bookAnswer, bookRefusal, bookStore, namingsIn, storeRefusal, wordsIn}
 use Rattle.lockgraph.proofs.Accepted.{few-namings, few-words, namings-are, not-refused, words-are}
 use Rattle.lockgraph.proofs.RefusalLaws.{else-first, else-next, refused-case}
 
@@ -43,12 +41,10 @@ module _ {s : List ℕ} {u : Setup} (x : SetUp s u) where
     pub book-short : (d : List ℕ) → length d < u .namings * u .words → BookIs s d (Refused 12) d
     book-short d h = refused-by s d (sym (number-is (length d) ∙ ap (λ b. cond b 12 0) (lt-ltb (length d) (u .namings * u .words) h))) (λ i. omega arith)
 
-    pub book-done : (d d′ : List ℕ) → u .namings * u .words ≤ length d
-        → d′ ≡ tablesBy (wordsIn s) (λ r t. elem t (survivorsIn s r)) (u .namings) ++ drop (u .namings * wordsIn s) d
-        → BookIs s d (Done (u .namings) (u .words)) d′
+    pub book-done : (d d′ : List ℕ) → u .namings * u .words ≤ length d → d′ ≡ bookStore s 0 d → BookIs s d (Done (u .namings) (u .words)) d′
     book-done d d′ h e =
         let none : bookRefusal s (length d) ≡ 0 = number-is (length d) ∙ ap (λ b. cond b 12 0) (le-ltb (length d) (u .namings * u .words) h) in
         record {
           answer = ap₂ Done (namings-are x z) (words-are x z) ∙ ap (bookAnswer s) (sym none);
-          store-holds = e ∙ ap (λ n. tablesBy (wordsIn s) (λ r t. elem t (survivorsIn s r)) n ++ drop (n * wordsIn s) d) (namings-are x z) ∙ ap (λ q. bookStore s q d) (sym none);
+          store-holds = e ∙ ap (λ q. bookStore s q d) (sym none);
         }

@@ -6,13 +6,12 @@ use Prim.Native.Nat.{ℕ, _%_}
 use lib.ListN.{length, take}
 use borrow.Author.Tests.{eq-eqb, ne-eqb}
 use Rattle.ctl.specs.Tableau.{startTypes}
-use Rattle.ctl.specs.Verdict.{roundsOf, survivingTypes}
-use Rattle.tableau.specs.Tabled.{Tabled}
+use Rattle.ctl.specs.Verdict.{survivingTypes}
 use Rattle.tableau.specs.declared.table.Counts.{Counts}
 use Rattle.prepare.specs.Prepared.{tableauIn}
 use Rattle.lockgraph.specs.declared.tables.TableAnswer.{TableAnswer}
 use Rattle.lockgraph.specs.declared.tables.TableAnswer.the-variants.{Done, Refused}
-use Rattle.lockgraph.specs.Outcomes.{TableIs, holding, partOf, placeOf, tableAnswer, tableRefusal, tableStore, wordsIn}
+use Rattle.lockgraph.specs.Outcomes.{TableIs, TabledIn, holding, partOf, placeOf, tableAnswer, tableRefusal, tableStore, wordsIn}
 use Rattle.lockgraph.proofs.RefusalLaws.{refused-case}
 
 module _ (s : List ℕ) (r : ℕ) where
@@ -24,7 +23,7 @@ module _ (s : List ℕ) (r : ℕ) where
   }
 
   pub table-done : (first second : List ℕ) {k w : ℕ} {first′ second′ : List ℕ} {c : Counts} → k ≡ tableRefusal s r (length first) (length second) → k ≡ 0 → w ≡ wordsIn s
-      → Tabled (startTypes (tableauIn s) r) (survivingTypes (tableauIn s) r) (roundsOf (tableauIn s) r) (wordsIn s) first second first′ second′ c
+      → TabledIn s r first second first′ second′ c
       → TableIs s r first second (Done w (c .start) (c .left) (c .rounds)) first′ second′
   unfolding holding
   table-done first second {k} {w} {first′} {second′} {c} e z ew t =

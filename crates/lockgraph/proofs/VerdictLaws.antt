@@ -2,10 +2,7 @@
 use mathlib.Core.Path.{_≡_, refl, sym, ap, _∙_}
 use mathlib.Core.List.{List}
 use Prim.Native.Nat.{ℕ}
-use Rattle.ctl.specs.Positive.{positive}
 use Rattle.ctl.specs.Verdict as Ctl
-use Rattle.sheet.specs.Reading.{formulas, goalOf}
-use Rattle.prepare.specs.Prepared.{tableauIn}
 use Rattle.judge.specs.Judged as Judged
 use Rattle.judge.specs.declared.Verdict.{Verdict}
 use Rattle.frame.specs.SetUp.{SetUp}
@@ -21,6 +18,6 @@ module _ {s : List ℕ} {u : Setup} (x : SetUp s u) where
   unfolding verdictOf
   verdict-refused n = refused-case Refused (verdictAnswer s) (λ q. refl) (u .refusal) n ∙ ap (verdictAnswer s) (x .is)
 
-  pub verdict-judged : u .refusal ≡ 0 → (v : Verdict) {a : VerdictAnswer} → Ctl.verdict (tableauIn s) (positive (goalOf (formulas s))) ≡ Judged.verdictOf v → a ≡ verdictBy (Judged.verdictOf v) → a ≡ verdictOf s
-  unfolding verdictOf verdictIn
+  pub verdict-judged : u .refusal ≡ 0 → (v : Verdict) {a : VerdictAnswer} → verdictIn s ≡ Judged.verdictOf v → a ≡ verdictBy (Judged.verdictOf v) → a ≡ verdictOf s
+  unfolding verdictOf
   verdict-judged z v e i = i ∙ ap verdictBy (sym e) ∙ ap (verdictAnswer s) (sym (not-refused x z))

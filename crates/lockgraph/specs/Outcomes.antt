@@ -14,6 +14,8 @@ use Rattle.wordset.specs.Words.{packed}
 use Rattle.layout.specs.Layout.{kinds, lineOf}
 use Rattle.sheet.specs.Reading.{formulas, globalsOf, goalOf}
 use Rattle.reader.specs.Reader.{refusalOf}
+use Rattle.tableau.specs.Tabled.{Tabled}
+use Rattle.tableau.specs.declared.table.Counts.{Counts}
 use Rattle.prepare.specs.Prepared.{tableauIn}
 use Rattle.booking.specs.Booked.{tablesBy}
 use Rattle.evaluator.specs.Rows.{rowOf}
@@ -85,6 +87,10 @@ tableAnswer s r (suc k) = Table.Refused (suc k)
 abbrev pub tableStore : List ℕ → ℕ → ℕ → List ℕ → List ℕ
 tableStore s r zero d = holding s r d
 tableStore s r (suc k) d = d
+
+-- the counts and both stores, where there is no refusal
+abbrev pub TabledIn : List ℕ → ℕ → List ℕ → List ℕ → List ℕ → List ℕ → Counts → Type 0
+TabledIn s r = Tabled (startTypes (tableauIn s) r) (survivorsIn s r) (roundsOf (tableauIn s) r) (wordsIn s)
 
 pub record TableIs (s : List ℕ) (r : ℕ) (first second : List ℕ) (o : TableAnswer) (first′ second′ : List ℕ) : Type 0 where
   pub answer : o ≡ tableAnswer s r (tableRefusal s r (length first) (length second))

@@ -1,15 +1,10 @@
 // Book: the surviving types under every naming, in one lent store. Assumes nothing.
 use frame::Setup;
 ghost use mathlib.Core.Path.{_≡_};
-ghost use mathlib.Core.List.{_++_};
 ghost use Prim.Native.Nat.{_*_, _≤_};
-ghost use lib.ListN.{length, drop};
-ghost use Rattle.ctl.specs.Lists.{elem};
-ghost use Rattle.ctl.specs.Verdict.{survivingTypes};
-ghost use Rattle.prepare.specs.Prepared.{tableauIn};
-ghost use Rattle.booking.specs.Booked.{tablesBy};
+ghost use lib.ListN.{length};
 ghost use Rattle.frame.specs.SetUp.{SetUp};
-ghost use Rattle.lockgraph.specs.Outcomes.{BookIs, wordsIn};
+ghost use Rattle.lockgraph.specs.Outcomes.{BookIs, bookStore};
 
 // A refusal by its number, or how many namings there are, and how many words for each.
 pub enum BookAnswer {
@@ -21,7 +16,7 @@ pub enum BookAnswer {
 fn book_in(sheet: &[u8], u: Setup, store: &mut [u64], lw: &mut [u64])
     requires { ⌜ SetUp (now sheet) u ⌝ }
     requires { ⌜ (u .refusal ≡ 0) × (u .namings * u .words ≤ length (now store)) × (u .links ≤ length (now lw)) ⌝ }
-    ensures { λ _. ⌜ now (store .exit) ≡ tablesBy (wordsIn (now (sheet .entry))) (λ r t. elem t (survivingTypes (tableauIn (now (sheet .entry))) r)) (u .namings) ++ drop (u .namings * wordsIn (now (sheet .entry))) (now (store .entry)) ⌝ }
+    ensures { λ _. ⌜ now (store .exit) ≡ bookStore (now (sheet .entry)) 0 (now (store .entry)) ⌝ }
 {
     let members = u.members;
     let lean = u.lean;
@@ -57,7 +52,7 @@ fn book_in(sheet: &[u8], u: Setup, store: &mut [u64], lw: &mut [u64])
 fn fitted_book(sheet: &[u8], u: Setup, store: &mut [u64])
     requires { ⌜ SetUp (now sheet) u ⌝ }
     requires { ⌜ (u .refusal ≡ 0) × (u .namings * u .words ≤ length (now store)) ⌝ }
-    ensures { λ _. ⌜ now (store .exit) ≡ tablesBy (wordsIn (now (sheet .entry))) (λ r t. elem t (survivingTypes (tableauIn (now (sheet .entry))) r)) (u .namings) ++ drop (u .namings * wordsIn (now (sheet .entry))) (now (store .entry)) ⌝ }
+    ensures { λ _. ⌜ now (store .exit) ≡ bookStore (now (sheet .entry)) 0 (now (store .entry)) ⌝ }
 {
     let n = u.links;
     if n <= 528 {

@@ -7,12 +7,8 @@ use tableau::table::Counts;
 ghost use mathlib.Core.Path.{_≡_};
 ghost use Prim.Native.Nat.{_≤_};
 ghost use lib.ListN.{length, take};
-ghost use Rattle.ctl.specs.Tableau.{startTypes};
-ghost use Rattle.ctl.specs.Verdict.{roundsOf, survivingTypes};
-ghost use Rattle.tableau.specs.Tabled.{Tabled};
-ghost use Rattle.prepare.specs.Prepared.{tableauIn};
 ghost use Rattle.frame.specs.SetUp.{SetUp};
-ghost use Rattle.lockgraph.specs.Outcomes.{TableIs, partOf, placeOf, wordsIn};
+ghost use Rattle.lockgraph.specs.Outcomes.{TableIs, TabledIn, partOf, placeOf};
 ghost use Rattle.lockgraph.specs.Demands.{TableDemand2, TableDemand3};
 
 // A refusal by its number, or how many words hold the types, how many types there are at the start and at the end, and after how many rounds.
@@ -37,7 +33,7 @@ fn table_in(
 ) -> Counts
     requires { ⌜ SetUp (now sheet) u ⌝ }
     requires { ⌜ (u .refusal ≡ 0) × (4 ≤ length (now first)) × (4 ≤ length (now second)) × (u .links ≤ length (now lw)) ⌝ }
-    ensures { λ c. ⌜ Tabled (startTypes (tableauIn (now (sheet .entry))) naming) (survivingTypes (tableauIn (now (sheet .entry))) naming) (roundsOf (tableauIn (now (sheet .entry))) naming) (wordsIn (now (sheet .entry))) (now (first .entry)) (now (second .entry)) (now (first .exit)) (now (second .exit)) c ⌝ }
+    ensures { λ c. ⌜ TabledIn (now (sheet .entry)) naming (now (first .entry)) (now (second .entry)) (now (first .exit)) (now (second .exit)) c ⌝ }
 {
     let w = u.words;
     let members = u.members;
@@ -81,7 +77,7 @@ pub fn fitted_table(
 ) -> Counts
     requires { ⌜ SetUp (now sheet) u ⌝ }
     requires { ⌜ (u .refusal ≡ 0) × (4 ≤ length (now first)) × (4 ≤ length (now second)) ⌝ }
-    ensures { λ c. ⌜ Tabled (startTypes (tableauIn (now (sheet .entry))) naming) (survivingTypes (tableauIn (now (sheet .entry))) naming) (roundsOf (tableauIn (now (sheet .entry))) naming) (wordsIn (now (sheet .entry))) (now (first .entry)) (now (second .entry)) (now (first .exit)) (now (second .exit)) c ⌝ }
+    ensures { λ c. ⌜ TabledIn (now (sheet .entry)) naming (now (first .entry)) (now (second .entry)) (now (first .exit)) (now (second .exit)) c ⌝ }
 {
     let n = u.links;
     if n <= 528 {

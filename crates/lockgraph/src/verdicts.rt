@@ -2,13 +2,9 @@
 ghost use mathlib.Core.Path.{_≡_};
 ghost use Prim.Native.Nat.{_≤_};
 ghost use lib.ListN.{length};
-ghost use Rattle.ctl.specs.Positive.{positive};
-ghost use Rattle.ctl.specs.Verdict as Ctl;
-ghost use Rattle.sheet.specs.Reading.{formulas, goalOf};
-ghost use Rattle.prepare.specs.Prepared.{tableauIn};
 ghost use Rattle.judge.specs.Judged as Judged;
 ghost use Rattle.frame.specs.SetUp.{SetUp};
-ghost use Rattle.lockgraph.specs.Outcomes.{verdictBy, verdictOf};
+ghost use Rattle.lockgraph.specs.Outcomes.{verdictBy, verdictIn, verdictOf};
 ghost use Rattle.lockgraph.specs.Demands.{VerdictDemand2, VerdictDemand3};
 use frame::Setup;
 use judge::Verdict;
@@ -24,7 +20,7 @@ pub enum VerdictAnswer {
 fn judge_in(sheet: &[u8], u: Setup, lw: &mut [u64]) -> Verdict
     requires { ⌜ SetUp (now sheet) u ⌝ }
     requires { ⌜ (u .refusal ≡ 0) × (u .links ≤ length (now lw)) ⌝ }
-    ensures { λ v. ⌜ Ctl.verdict (tableauIn (now (sheet .entry))) (positive (goalOf (formulas (now (sheet .entry))))) ≡ Judged.verdictOf v ⌝ }
+    ensures { λ v. ⌜ verdictIn (now (sheet .entry)) ≡ Judged.verdictOf v ⌝ }
 {
     let members = u.members;
     let lean = u.lean;
@@ -70,7 +66,7 @@ fn judge_in(sheet: &[u8], u: Setup, lw: &mut [u64]) -> Verdict
 fn fitted_verdict(sheet: &[u8], u: Setup) -> Verdict
     requires { ⌜ SetUp (now sheet) u ⌝ }
     requires { ⌜ u .refusal ≡ 0 ⌝ }
-    ensures { λ v. ⌜ Ctl.verdict (tableauIn (now (sheet .entry))) (positive (goalOf (formulas (now (sheet .entry))))) ≡ Judged.verdictOf v ⌝ }
+    ensures { λ v. ⌜ verdictIn (now (sheet .entry)) ≡ Judged.verdictOf v ⌝ }
 {
     let n = u.links;
     if n <= 528 {

@@ -30,7 +30,7 @@ use Rattle.sheet.proofs.SizeLaws.{formulas-many}
 use Rattle.closure.specs.Members.{Canon, Members, c-and, c-ar, c-au, c-ax, c-er, c-eu, c-ex, c-fls, c-lit, c-nlit, c-or, c-tru, forms, leftW, tagW, wordOf}
 use Rattle.closure.proofs.MemberLaws.{canon-parts, forms-length, member, word-left, word-tag}
 use Rattle.closure.proofs.LeanLaws.{form-word}
-use Rattle.tableau.specs.Tables.{Leans, Table, argAt, form, leanForms, tagAt}
+use Rattle.tableau.specs.Tables.{ExPlaced, Leans, Table, argAt, form, leanForms, tagAt}
 use Rattle.tableau.specs.Matches.{Matches}
 use Rattle.reader.specs.declared.Reading.{Reading}
 use Rattle.reader.specs.Reader as R
@@ -192,7 +192,7 @@ module _ (s : List ℕ) (r : Reading) (x : Says s r) where
   leans h = record { short = (let n = lean-length in omega arith); inside = lean-inside }
 
   -- each EX over one mode has a place in the lean
-  pub ex-places : (i : ℕ) → i < length ms → tagAt ms i ≡ 6 → single (argAt ms i) ≡ true → (k : ℕ) × (k < length ln) × (getD ln k 0 ≡ i)
+  pub ex-places : ExPlaced ms ln
   unfolding form
   ex-places i h g a =
       let w = member-word (x .tabled .members) i h in

@@ -21,7 +21,7 @@ use Rattle.closure.specs.Members.{forms}
 use Rattle.tableau.specs.Tables.{Table, argAt, form, leanForms, leftAt, rightAt, tagAt}
 use Rattle.tableau.specs.Blocks.{has}
 use Rattle.tableau.specs.Truths.{Tr, Truths, trueAt}
-use Rattle.tableau.specs.Links.{Lk, Narrowed, asked, keeps, linkBack, linkRoom, ruleBy, selects, sideRule}
+use Rattle.tableau.specs.Links.{Lk, Narrowed, asked, keeps, linkBack, linkRoom, reverse, ruleBy, selects, sideRule}
 use Rattle.tableau.specs.declared.links.Rule.{Rule}
 use Rattle.tableau.specs.declared.links.Rule.the-variants.{Forward, Backward, BothWays}
 use Rattle.tableau.proofs.MemberLaws.{all-forms, form-tag, tag-of}
@@ -128,7 +128,7 @@ module _ (on back : Bool) (I P : ℕ → Bool) where
   side-off e = narrowed-none (λ t u h k. side e refl t u)
 
   pub side-back : {w : ℕ} {d rows : List ℕ} → on ≡ true → back ≡ true → Narrowed w d rows (ruleTest Backward I P) → Narrowed w d rows (sideTest on back I P)
-  unfolding selects keeps
+  unfolding selects keeps reverse
   side-back e f n = narrowed-as n (λ t u h k. contra (I u) (P t) ∙ sym (side e f t u))
     where
       contra : (a b : Bool) → imp (not b) (not a) ≡ imp a b
@@ -138,8 +138,12 @@ module _ (on back : Bool) (I P : ℕ → Bool) where
       contra false false = refl
 
   pub side-on : {w : ℕ} {d rows : List ℕ} → on ≡ true → back ≡ false → Narrowed w d rows (ruleTest Forward I P) → Narrowed w d rows (sideTest on back I P)
-  unfolding selects keeps
-  side-on e f n = narrowed-as n (λ t u h k. sym (side e f t u))
+  unfolding selects keeps reverse
+  side-on e f n = narrowed-as n (λ t u h k. ap (imp (I t)) (twice (P u)) ∙ sym (side e f t u))
+    where
+      twice : (b : Bool) → not (not b) ≡ b
+      twice true = refl
+      twice false = refl
 
 -- ---- a member narrows rows by what it asks, where the truth words are those of the table
 
@@ -176,17 +180,18 @@ module _ {ms : List ℕ} (ln : List ℕ) (t : Table ms) (i : ℕ) (h : i < lengt
 
     pub both-on : {d rows : List ℕ} (a q : ℕ) → a ≡ argAt ms i → q ≡ rightAt ms i → hasMode a f ≡ true → hasMode a (f + 8) ≡ true
         → Narrowed w d rows (ruleTest BothWays (has w tw i) (has w tw q)) → Narrowed w d rows (λ s u. ruleBy ms ln f back s u i)
-    unfolding selects keeps
+    unfolding selects keeps reverse
     both-on a q ea eq m n v =
-        narrowed-as v (λ s u k l. known r (λ x y z o. imp (x && not y) (not z || o)) i q s u h (right-in t h (omega arith) eq) k l
+        narrowed-as v (λ s u k l. known r (λ x y z o. imp (x && not y) (not (z && not o))) i q s u h (right-in t h (omega arith) eq) k l
         ∙ both (trueAt ms ln i s) (trueAt ms ln q s) (trueAt ms ln i u) (trueAt ms ln q u)
         ∙ sym (ap₂ (λ x y. imp (x && y) (imp (trueAt ms ln i s && trueAt ms ln i u) (trueAt ms ln q s || trueAt ms ln q u))) m n) ∙ asks-is a q s u ea eq)
       where
-        both : (it qt iu qu : Bool) → imp (it && not qt) (not iu || qu) ≡ imp (it && iu) (qt || qu)
+        both : (it qt iu qu : Bool) → imp (it && not qt) (not (iu && not qu)) ≡ imp (it && iu) (qt || qu)
         both false qt iu qu = refl
         both true true true qu = refl
         both true true false qu = refl
-        both true false true qu = refl
+        both true false true true = refl
+        both true false true false = refl
         both true false false qu = refl
 
   pub ex-on : {d rows : List ℕ} (a p : ℕ) → f < 8 → a ≡ argAt ms i → p ≡ leftAt ms i → tagAt ms i ≡ 6

@@ -5,7 +5,7 @@ use mathlib.Core.List.{List}
 use mathlib.Core.Logic.{_⊎_, inl, inr, ⊎-elim}
 use Prim.Native.Nat.{ℕ, _+_, _-_, _*_, _/_, _%_, _^_, _≤_, _<_}
 use native.Mathlib.Omega.{arith}
-use lib.Bits.{bitAnd, bitOr}
+use lib.Bits.{bitAnd}
 use lib.Count.{trailingZeros}
 use lib.Dec.{eqb, ltb}
 use lib.ListN.{length, getD, set, length-set}
@@ -13,13 +13,13 @@ use lib.Seq.{getD-set-same, getD-set-other}
 use borrow.Author.Tests.{lt-ltb, le-ltb, ltb-true, ltb-false, eq-eqb, eqb-true, eqb-false}
 use Rattle.ctl.proofs.BoolLaws.{and-both, same-test}
 use Rattle.ctl.specs.Lists.{imp}
-use Rattle.wordset.proofs.AnswersLaws.{minus-answers, or-answers}
+use Rattle.wordset.proofs.AnswersLaws.{minus-answers}
 use Rattle.wordset.proofs.BelowLaws.{lt-or-le, same-or, top}
 use Rattle.wordset.proofs.BitLaws.{bit-and, bit-none}
 use Rattle.wordset.specs.Answers.{Answers}
 use Rattle.wordset.specs.Word.{bit}
 use Rattle.tableau.specs.Blocks.{has}
-use Rattle.tableau.specs.Links.{Narrowed, keeps, selects}
+use Rattle.tableau.specs.Links.{Narrowed, keeps, reverse, selects}
 use Rattle.tableau.specs.declared.links.Rule.{Rule}
 use Rattle.tableau.specs.declared.links.Rule.the-variants.{Forward, Backward, BothWays}
 use Rattle.tableau.proofs.BlockLaws.{block-at, block-has, block-in, block-word, slot, word-as, word-full, word-not}
@@ -267,35 +267,21 @@ full-has w rows f t u h k =
 -- ---- the words of a rule: the types on which a member has a say, and those that it keeps
 
 module _ (w : ℕ) (tw : List ℕ) (rule : Rule) (i p k : ℕ) where
-  abbrev selectsAt : ℕ → Bool
-  selectsAt t = selects rule (has w tw i t) (has w tw p t)
+  abbrev selectsAt : Rule → ℕ → Bool
+  selectsAt r t = selects r (has w tw i t) (has w tw p t)
 
-  abbrev keepsAt : ℕ → Bool
-  keepsAt t = keeps rule (has w tw i t) (has w tw p t)
+  pub selects-forward : rule ≡ Forward → getD tw (i * w + k) 0 < 2 ^ 64 → Answers (selectsAt rule) k (getD tw (i * w + k) 0)
+  unfolding selects
+  selects-forward f h = word-as (λ t. sym (ap (λ r. selectsAt r t) f)) (block-word w tw i k h)
 
-  module _ (f : rule ≡ Forward) where
-    pub selects-forward : getD tw (i * w + k) 0 < 2 ^ 64 → Answers selectsAt k (getD tw (i * w + k) 0)
-    unfolding selects
-    selects-forward h = word-as (λ t. sym (ap (λ r. selects r (has w tw i t) (has w tw p t)) f)) (block-word w tw i k h)
+  pub selects-backward : rule ≡ Backward → getD tw (p * w + k) 0 < 2 ^ 64 → Answers (selectsAt rule) k ((2 ^ 64 - 1) - getD tw (p * w + k) 0)
+  unfolding selects
+  selects-backward f h = word-as (λ t. sym (ap (λ r. selectsAt r t) f)) (word-not (block-word w tw p k h))
 
-    pub keeps-forward : getD tw (p * w + k) 0 < 2 ^ 64 → Answers keepsAt k (getD tw (p * w + k) 0)
-    unfolding keeps
-    keeps-forward h = word-as (λ t. sym (ap (λ r. keeps r (has w tw i t) (has w tw p t)) f)) (block-word w tw p k h)
+  pub selects-both : rule ≡ BothWays → getD tw (i * w + k) 0 < 2 ^ 64 → getD tw (p * w + k) 0 < 2 ^ 64 → Answers (selectsAt rule) k (bitAnd (getD tw (i * w + k) 0) ((2 ^ 64 - 1) - getD tw (p * w + k) 0))
+  unfolding selects
+  selects-both f h l = word-as (λ t. sym (ap (λ r. selectsAt r t) f)) (minus-answers (block-word w tw i k h) (block-word w tw p k l))
 
-  module _ (f : rule ≡ Backward) where
-    pub selects-backward : getD tw (p * w + k) 0 < 2 ^ 64 → Answers selectsAt k ((2 ^ 64 - 1) - getD tw (p * w + k) 0)
-    unfolding selects
-    selects-backward h = word-as (λ t. sym (ap (λ r. selects r (has w tw i t) (has w tw p t)) f)) (word-not (block-word w tw p k h))
-
-    pub keeps-backward : getD tw (i * w + k) 0 < 2 ^ 64 → Answers keepsAt k ((2 ^ 64 - 1) - getD tw (i * w + k) 0)
-    unfolding keeps
-    keeps-backward h = word-as (λ t. sym (ap (λ r. keeps r (has w tw i t) (has w tw p t)) f)) (word-not (block-word w tw i k h))
-
-  module _ (f : rule ≡ BothWays) (h : getD tw (i * w + k) 0 < 2 ^ 64) (l : getD tw (p * w + k) 0 < 2 ^ 64) where
-    pub selects-both : Answers selectsAt k (bitAnd (getD tw (i * w + k) 0) ((2 ^ 64 - 1) - getD tw (p * w + k) 0))
-    unfolding selects
-    selects-both = word-as (λ t. sym (ap (λ r. selects r (has w tw i t) (has w tw p t)) f)) (minus-answers (block-word w tw i k h) (block-word w tw p k l))
-
-    pub keeps-both : Answers keepsAt k (bitOr ((2 ^ 64 - 1) - getD tw (i * w + k) 0) (getD tw (p * w + k) 0))
-    unfolding keeps
-    keeps-both = word-as (λ t. sym (ap (λ r. keeps r (has w tw i t) (has w tw p t)) f)) (or-answers (word-not (block-word w tw i k h)) (block-word w tw p k l))
+  pub keeps-rest : {x : ℕ} {back : Rule} → back ≡ reverse rule → Answers (selectsAt back) k x → Answers (λ t. keeps rule (has w tw i t) (has w tw p t)) k ((2 ^ 64 - 1) - x)
+  unfolding keeps
+  keeps-rest e a = word-as (λ t. ap (λ r. not (selectsAt r t)) e) (word-not a)

@@ -1,9 +1,7 @@
 -- Families of types as words, and what a member asks of a type against a set. Assumes nothing.
-use mathlib.Core.Path.{_≡_}
 use mathlib.Core.Bool.{Bool, true, not, _&&_}
 use mathlib.Core.List.{List}
-use Prim.Native.Nat.{ℕ, _*_, _≤_, _<_}
-use lib.ListN.{length, getD}
+use Prim.Native.Nat.{ℕ, _*_, _≤_}
 use Rattle.ctl.specs.Elimination as E
 use Rattle.ctl.specs.ClosedFamily.{linked}
 use Rattle.ctl.specs.Formula.{Form, tru, fls, lit, nlit, and, or, ex, ax, eu, au, er, ar}
@@ -11,7 +9,7 @@ use Rattle.ctl.specs.Lists.{any, all, keep, below, elem, imp}
 use Rattle.ctl.specs.Modes.{single}
 use Rattle.wordset.specs.Words.{member}
 use Rattle.closure.specs.Members.{forms}
-use Rattle.tableau.specs.Tables.{Leans, Table, argAt, tagAt}
+use Rattle.tableau.specs.Tables.{ExPlaced, Leans, Table}
 use Rattle.tableau.specs.Truths.{Tr, Truths}
 use Rattle.tableau.specs.Links.{Lk, Rows}
 
@@ -26,8 +24,7 @@ pub record Ready (ms ln : List ℕ) (w : ℕ) (tw lw : List ℕ) : Type 0 where
   pub small : w ≤ 1024
   pub truths : Truths ms ln w tw
   pub rows : Rows ms ln w lw
-  -- each EX over one mode has a place in the lean
-  pub places : (i : ℕ) → i < length ms → tagAt ms i ≡ 6 → single (argAt ms i) ≡ true → (k : ℕ) × (k < length ln) × (getD ln k 0 ≡ i)
+  pub places : ExPlaced ms ln
 
 -- ctl's elimination, over the closure, the truth and the links of a table under a lean
 module _ (ms ln : List ℕ) where

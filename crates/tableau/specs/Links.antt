@@ -68,11 +68,16 @@ selects Forward it pt = it
 selects Backward it pt = not pt
 selects BothWays it pt = it && not pt
 
--- whether it then keeps a type in that row, by their truth there
+-- the same rule, from the other end of a link
+unfoldable pub reverse : Rule → Rule
+reverse Forward = Backward
+reverse Backward = Forward
+reverse BothWays = BothWays
+
+-- whether it then keeps a type in that row: it has no say there from the other end
 unfoldable pub keeps : Rule → Bool → Bool → Bool
-keeps Forward iu pu = pu
-keeps Backward iu pu = not iu
-keeps BothWays iu pu = not iu || pu
+unfolding selects reverse
+keeps rule iu pu = not (selects (reverse rule) iu pu)
 
 -- rows that kept, of their links, those that pass the test
 pub record Narrowed (w : ℕ) (rows rows′ : List ℕ) (F : ℕ → ℕ → Bool) : Type 0 where

@@ -19,7 +19,7 @@ ghost use Rattle.wordset.specs.Word.{bit};
 ghost use Rattle.tableau.specs.Blocks.{has};
 ghost use Rattle.tableau.specs.Tables.{Table, tagAt};
 ghost use Rattle.tableau.specs.Truths.{Truths};
-ghost use Rattle.tableau.specs.Links.{Lk, Narrowed, Rows, asked, asksBy, keeps, linkRoom, ruleBy, selects, sideRule};
+ghost use Rattle.tableau.specs.Links.{Lk, Narrowed, Rows, asked, asksBy, keeps, linkRoom, reverse, ruleBy, selects, sideRule};
 
 const ALL: u64 = 0xFFFF_FFFF_FFFF_FFFF;
 
@@ -92,16 +92,23 @@ fn selected(tw: &[u64], w: usize, rule: Rule, i: usize, p: usize, k: usize) -> u
     }
 }
 
-// Answers j of the types that it keeps in their rows.
+// The same rule, from the other end of a link.
+fn reversed(rule: Rule) -> Rule
+    ensures { λ r. ⌜ r ≡ reverse rule ⌝ }
+{
+    match rule {
+        Rule::Forward => Rule::Backward,
+        Rule::Backward => Rule::Forward,
+        Rule::BothWays => Rule::BothWays,
+    }
+}
+
+// Answers j of the types that it keeps in their rows: those on which it has no say from the other end.
 fn kept(tw: &[u64], w: usize, rule: Rule, i: usize, p: usize, j: usize) -> u64
     requires { ⌜ (i * w + w ≤ length (now tw)) × (p * w + w ≤ length (now tw)) × (j < w) ⌝ }
     ensures { λ r. ⌜ Answers (λ u. keeps rule (has w (now (tw .entry)) i u) (has w (now (tw .entry)) p u)) j r ⌝ }
 {
-    match rule {
-        Rule::Forward => tw[p * w + j],
-        Rule::Backward => !tw[i * w + j],
-        Rule::BothWays => !tw[i * w + j] | tw[p * w + j],
-    }
+    !selected(tw, w, reversed(rule), i, p, j)
 }
 
 // In the rows of the types that word x at k has, word j loses what y lacks. Only those types are visited.
