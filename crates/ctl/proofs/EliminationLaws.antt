@@ -10,7 +10,7 @@ use native.Mathlib.Decide.{decLe}
 use lib.ListN.{length}
 use lib.Dec.{T, eqb, eqb→eq}
 use borrow.Author.Tests.{eqb-false}
-use Rattle.ctl.specs.Lists.{_∈_, any, keep, elem}
+use Rattle.ctl.specs.Lists.{_∈_, anyOf, keep, elem}
 use Rattle.ctl.specs.Formula.{Form}
 use Rattle.ctl.specs.ClosedFamily.{Meets, Closed}
 use Rattle.ctl.specs.Elimination.{good, fails, round, families, eliminate, rounds, survivors}
@@ -21,7 +21,7 @@ use Rattle.ctl.proofs.NeedLaws.{meets-out, meets-in, meets-wider}
 module _ (cl : List Form) (tr : ℕ → Form → Bool) (lk : ℕ → ℕ → ℕ → Bool) where
   -- ---- rounds
 
-  any-map : (f : Form × List ℕ → Bool) (g : Form → Form × List ℕ) (l : List Form) → any f (map g l) ≡ any (λ p. f (g p)) l
+  any-map : (f : Form × List ℕ → Bool) (g : Form → Form × List ℕ) (l : List Form) → anyOf f (map g l) ≡ anyOf (λ p. f (g p)) l
   any-map f g [] = refl
   any-map f g (p ∷ l) = ap (λ b. f (g p) || b) (any-map f g l)
 
@@ -29,7 +29,7 @@ module _ (cl : List Form) (tr : ℕ → Form → Bool) (lk : ℕ → ℕ → ℕ
   pub round-fails : (fam : List ℕ) → round cl tr lk fam ≡ keep (λ t. not (fails cl tr lk fam t)) fam
   unfolding round fails
   round-fails fam =
-      keep-same (λ t. not (any (λ g. tr t (g .0) && not (elem t (g .1))) (map (λ p. (p, good cl tr lk fam p)) cl))) (λ t. not (fails cl tr lk fam t)) fam
+      keep-same (λ t. not (anyOf (λ g. tr t (g .0) && not (elem t (g .1))) (map (λ p. (p, good cl tr lk fam p)) cl))) (λ t. not (fails cl tr lk fam t)) fam
       (λ t m. ap not (any-map (λ g. tr t (g .0) && not (elem t (g .1))) (λ p. (p, good cl tr lk fam p)) cl))
 
   round-within : (fam : List ℕ) (t : ℕ) → t ∈ round cl tr lk fam → t ∈ fam

@@ -5,7 +5,7 @@ use mathlib.Core.Logic.{_↔_, Iff·rfl}
 use mathlib.Core.Bool.{Bool, true, false, not, _&&_, _||_}
 use lib.Dec.{ltb}
 use borrow.Author.Tests.{ltb-true}
-use Rattle.ctl.specs.Lists.{any}
+use Rattle.ctl.specs.Lists.{anyOf}
 use Rattle.ctl.specs.Formula.{Form, tru, fls, lit, nlit, and, or, ex, ax, eu, au, er, ar}
 use Rattle.ctl.specs.Modes.{hasMode, modes}
 use Rattle.ctl.specs.Snapshot.{Snapshot, follows, step}
@@ -19,12 +19,12 @@ use Rattle.ctl.proofs.Paths.{Graph}
 use Rattle.ctl.proofs.Operators.{EX-iff, AX-iff, EU-iff, AU-iff, ER-iff, AR-iff}
 
 -- some mode of a set passes a test
-pub modes-iff : (A : ℕ) (f : ℕ → Bool) → (any f (modes A) ≡ true) ↔ ((m : ℕ) × (m < 16) × (hasMode A m ≡ true) × (f m ≡ true))
+pub modes-iff : (A : ℕ) (f : ℕ → Bool) → (anyOf f (modes A) ≡ true) ↔ ((m : ℕ) × (m < 16) × (hasMode A m ≡ true) × (f m ≡ true))
 modes-iff A f = (
-  λ e. let r = any-out f (modes A) (T-true (any f (modes A)) e) in
+  λ e. let r = any-out f (modes A) (T-true (anyOf f (modes A)) e) in
       let w = modes-in A (r .1) in
       (r .0, mode-lt (w .0), true-T (hasMode A (r .0)) (w .1), true-T (f (r .0)) (r .2)),
-  λ h. true-T (any f (modes A)) (any-in f (modes-has A (h .0) (h .1) (T-true (hasMode A (h .0)) (h .2))) (T-true (f (h .0)) (h .3))),
+  λ h. true-T (anyOf f (modes A)) (any-in f (modes-has A (h .0) (h .1) (T-true (hasMode A (h .0)) (h .2))) (T-true (f (h .0)) (h .3))),
 )
 
 -- ---- the graph of the modes of A

@@ -4,7 +4,7 @@ use mathlib.Core.Path.{_≡_, refl, sym, ap, _∙_, subst}
 use mathlib.Core.Logic.{_↔_, Iff·rfl}
 use mathlib.Core.Bool.{Bool, true, not, _&&_, _||_, or-false, and-true, Bool·not-not}
 use mathlib.Core.List.{List, [], _∷_, map}
-use Rattle.ctl.specs.Lists.{any, all}
+use Rattle.ctl.specs.Lists.{anyOf, allOf}
 use Rattle.ctl.specs.Formula.{Form, tru, fls, lit, nlit, and, or, ex, ax, eu, au, er, ar}
 use Rattle.ctl.specs.Modes.{hasMode, modes}
 use Rattle.ctl.specs.Expansion.{orAll, andAll, expand}
@@ -35,19 +35,19 @@ module _ (s : Snapshot) where
     λ e. (m, h, true-T (hasMode (2 ^ m) m) (modes-in (2 ^ m) (mode-own (2 ^ m) m h refl) .1), e),
   )
 
-  sat-orAll : (f : ℕ → Form) (l : List ℕ) (i : ℕ) → i < s .n → sat s (orAll (map f l)) i ≡ any (λ m. sat s (f m) i) l
+  sat-orAll : (f : ℕ → Form) (l : List ℕ) (i : ℕ) → i < s .n → sat s (orAll (map f l)) i ≡ anyOf (λ m. sat s (f m) i) l
   sat-orAll f [] i h = sat-fls s i h
   sat-orAll f (m ∷ []) i h = sym (or-false (sat s (f m) i))
   sat-orAll f (m ∷ m′ ∷ l) i h = rw (sat-or s (f m) (orAll (map f (m′ ∷ l))) i h, sat-orAll f (m′ ∷ l) i h)
 
-  sat-andAll : (f : ℕ → Form) (l : List ℕ) (i : ℕ) → i < s .n → sat s (andAll (map f l)) i ≡ all (λ m. sat s (f m) i) l
+  sat-andAll : (f : ℕ → Form) (l : List ℕ) (i : ℕ) → i < s .n → sat s (andAll (map f l)) i ≡ allOf (λ m. sat s (f m) i) l
   sat-andAll f [] i h = sat-tru s i h
   sat-andAll f (m ∷ []) i h = sym (and-true (sat s (f m) i))
   sat-andAll f (m ∷ m′ ∷ l) i h = rw (sat-and s (f m) (andAll (map f (m′ ∷ l))) i h, sat-andAll f (m′ ∷ l) i h)
 
   -- EX and AX over A are those over its modes
-  pub ex-modes : (A : ℕ) (p : Form) (i : ℕ) → i < s .n → sat s (ex A p) i ≡ any (λ m. sat s (ex (2 ^ m) p) i) (modes A)
-  ex-modes A p i l = same-test (sat s (ex A p) i) (any (λ m. sat s (ex (2 ^ m) p) i) (modes A))
+  pub ex-modes : (A : ℕ) (p : Form) (i : ℕ) → i < s .n → sat s (ex A p) i ≡ anyOf (λ m. sat s (ex (2 ^ m) p) i) (modes A)
+  ex-modes A p i l = same-test (sat s (ex A p) i) (anyOf (λ m. sat s (ex (2 ^ m) p) i) (modes A))
       (λ e. let r = ex-iff A p i l .0 e in
       let m = r .1 .0 in
       modes-iff A (λ m. sat s (ex (2 ^ m) p) i) .1 (m, r .1 .1, r .1 .2, ex-iff (2 ^ m) p i l .1 (r .0, leads-single m i (r .0) (r .1 .1) .1 (r .1 .3), r .2)))
@@ -55,14 +55,14 @@ module _ (s : Snapshot) where
       let r = ex-iff (2 ^ (w .0)) p i l .0 (w .3) in
       ex-iff A p i l .1 (r .0, (w .0, w .1, w .2, leads-single (w .0) i (r .0) (w .1) .0 (r .1)), r .2))
 
-  pub ax-modes : (A : ℕ) (p : Form) (i : ℕ) → i < s .n → sat s (ax A p) i ≡ all (λ m. sat s (ax (2 ^ m) p) i) (modes A)
-  ax-modes A p i l = same-test (sat s (ax A p) i) (all (λ m. sat s (ax (2 ^ m) p) i) (modes A))
-      (λ e. true-T (all (λ m. sat s (ax (2 ^ m) p) i) (modes A)) (all-in (λ m. sat s (ax (2 ^ m) p) i) (modes A) (λ m k.
+  pub ax-modes : (A : ℕ) (p : Form) (i : ℕ) → i < s .n → sat s (ax A p) i ≡ allOf (λ m. sat s (ax (2 ^ m) p) i) (modes A)
+  ax-modes A p i l = same-test (sat s (ax A p) i) (allOf (λ m. sat s (ax (2 ^ m) p) i) (modes A))
+      (λ e. true-T (allOf (λ m. sat s (ax (2 ^ m) p) i) (modes A)) (all-in (λ m. sat s (ax (2 ^ m) p) i) (modes A) (λ m k.
       let w = modes-in A k in
       T-true (sat s (ax (2 ^ m) p) i) (ax-iff (2 ^ m) p i l .1 (λ j r. ax-iff A p i l .0 e j (m, mode-lt (w .0), true-T (hasMode A m) (w .1), leads-single m i j (mode-lt (w .0)) .0 r))))))
       (λ e. ax-iff A p i l .1 (λ j r.
       let m = r .0 in
-      let t = all-out (λ m. sat s (ax (2 ^ m) p) i) (T-true (all (λ m. sat s (ax (2 ^ m) p) i) (modes A)) e) (modes-has A m (r .1) (T-true (hasMode A m) (r .2))) in
+      let t = all-out (λ m. sat s (ax (2 ^ m) p) i) (T-true (allOf (λ m. sat s (ax (2 ^ m) p) i) (modes A)) e) (modes-has A m (r .1) (T-true (hasMode A m) (r .2))) in
       ax-iff (2 ^ m) p i l .0 (true-T (sat s (ax (2 ^ m) p) i) t) j (leads-single m i j (r .1) .1 (r .3))))
 
   -- ---- U and R

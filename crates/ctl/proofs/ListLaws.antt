@@ -8,38 +8,38 @@ use native.Mathlib.Omega.{arith}
 use native.Mathlib.Decide.{decLe}
 use lib.Dec.{T, eqb, eqb→eq, eqb-refl}
 use lib.ListN.{length, getD}
-use Rattle.ctl.specs.Lists.{_∈_, put, any, all, keep, elem, countFrom, below}
+use Rattle.ctl.specs.Lists.{_∈_, put, anyOf, allOf, keep, elem, countFrom, below}
 use Rattle.ctl.proofs.BoolLaws.{true-T, T-true, both-ways, decide, decide-T, and-in, and-0, and-1, or-0, or-1, or-out, true-and-false}
 
 module _ {ℓ} {A : Type ℓ} where
-  pub any-in : (p : A → Bool) {x : A} {l : List A} → x ∈ l → T (p x) → T (any p l)
-  any-in p (List·Memᴰ·head {x = y} {xs = ys} e) t = or-0 (p y) (any p ys) (subst (λ z. T (p z)) e t)
-  any-in p (List·Memᴰ·tail {x = y} {xs = ys} m) t = or-1 (p y) (any p ys) (any-in p m t)
+  pub any-in : (p : A → Bool) {x : A} {l : List A} → x ∈ l → T (p x) → T (anyOf p l)
+  any-in p (List·Memᴰ·head {x = y} {xs = ys} e) t = or-0 (p y) (anyOf p ys) (subst (λ z. T (p z)) e t)
+  any-in p (List·Memᴰ·tail {x = y} {xs = ys} m) t = or-1 (p y) (anyOf p ys) (any-in p m t)
 
-  pub any-out : (p : A → Bool) (l : List A) → T (any p l) → (x : A) × (x ∈ l) × T (p x)
+  pub any-out : (p : A → Bool) (l : List A) → T (anyOf p l) → (x : A) × (x ∈ l) × T (p x)
   any-out p [] t = absurd t
-  any-out p (x ∷ xs) t = go (or-out (p x) (any p xs) t) (any-out p xs)
+  any-out p (x ∷ xs) t = go (or-out (p x) (anyOf p xs) t) (any-out p xs)
     where
-      go : T (p x) ⊎ T (any p xs) → (T (any p xs) → (y : A) × (y ∈ xs) × T (p y)) → (y : A) × (y ∈ x ∷ xs) × T (p y)
+      go : T (p x) ⊎ T (anyOf p xs) → (T (anyOf p xs) → (y : A) × (y ∈ xs) × T (p y)) → (y : A) × (y ∈ x ∷ xs) × T (p y)
       go (inl s) rec = (x, List·Memᴰ·head refl, s)
       go (inr s) rec = let r = rec s in (r .0, List·Memᴰ·tail (r .1), r .2)
 
-  pub all-in : (p : A → Bool) (l : List A) → ((x : A) → x ∈ l → T (p x)) → T (all p l)
+  pub all-in : (p : A → Bool) (l : List A) → ((x : A) → x ∈ l → T (p x)) → T (allOf p l)
   all-in p [] f = tt
-  all-in p (x ∷ xs) f = and-in (p x) (all p xs) (f x (List·Memᴰ·head refl)) (all-in p xs (λ y m. f y (List·Memᴰ·tail m)))
+  all-in p (x ∷ xs) f = and-in (p x) (allOf p xs) (f x (List·Memᴰ·head refl)) (all-in p xs (λ y m. f y (List·Memᴰ·tail m)))
 
-  pub all-out : (p : A → Bool) {x : A} {l : List A} → T (all p l) → x ∈ l → T (p x)
-  all-out p t (List·Memᴰ·head {x = y} {xs = ys} e) = subst (λ z. T (p z)) (sym e) (and-0 (p y) (all p ys) t)
-  all-out p t (List·Memᴰ·tail {x = y} {xs = ys} m) = all-out p (and-1 (p y) (all p ys) t) m
+  pub all-out : (p : A → Bool) {x : A} {l : List A} → T (allOf p l) → x ∈ l → T (p x)
+  all-out p t (List·Memᴰ·head {x = y} {xs = ys} e) = subst (λ z. T (p z)) (sym e) (and-0 (p y) (allOf p ys) t)
+  all-out p t (List·Memᴰ·tail {x = y} {xs = ys} m) = all-out p (and-1 (p y) (allOf p ys) t) m
 
   -- a test that fails somewhere fails at an element
-  pub not-all : (p : A → Bool) (l : List A) → (T (all p l) → ⊥) → (x : A) × (x ∈ l) × (T (p x) → ⊥)
+  pub not-all : (p : A → Bool) (l : List A) → (T (allOf p l) → ⊥) → (x : A) × (x ∈ l) × (T (p x) → ⊥)
   not-all p [] f = absurd (f tt)
   not-all p (x ∷ xs) f = go (decide-T (p x)) (not-all p xs)
     where
-      go : T (p x) ⊎ (T (p x) → ⊥) → ((T (all p xs) → ⊥) → (y : A) × (y ∈ xs) × (T (p y) → ⊥)) → (y : A) × (y ∈ x ∷ xs) × (T (p y) → ⊥)
+      go : T (p x) ⊎ (T (p x) → ⊥) → ((T (allOf p xs) → ⊥) → (y : A) × (y ∈ xs) × (T (p y) → ⊥)) → (y : A) × (y ∈ x ∷ xs) × (T (p y) → ⊥)
       go (inr s) rec = (x, List·Memᴰ·head refl, s)
-      go (inl s) rec = let r = rec (λ t. f (and-in (p x) (all p xs) s t)) in (r .0, List·Memᴰ·tail (r .1), r .2)
+      go (inl s) rec = let r = rec (λ t. f (and-in (p x) (allOf p xs) s t)) in (r .0, List·Memᴰ·tail (r .1), r .2)
 
   put-in : (b : Bool) {x y : A} (l : List A) → T b → y ≡ x → y ∈ put b x l
   put-in true l t e = List·Memᴰ·head e
@@ -93,11 +93,11 @@ module _ {ℓ} {A : Type ℓ} where
   keep-same p q [] f = refl
   keep-same p q (x ∷ xs) f = rw (f x (List·Memᴰ·head refl), keep-same p q xs (λ y m. f y (List·Memᴰ·tail m)))
 
-  pub any-same : (p q : A → Bool) (l : List A) → ((x : A) → x ∈ l → p x ≡ q x) → any p l ≡ any q l
+  pub any-same : (p q : A → Bool) (l : List A) → ((x : A) → x ∈ l → p x ≡ q x) → anyOf p l ≡ anyOf q l
   any-same p q [] f = refl
   any-same p q (x ∷ xs) f = rw (f x (List·Memᴰ·head refl), any-same p q xs (λ y m. f y (List·Memᴰ·tail m)))
 
-  pub all-same : (p q : A → Bool) (l : List A) → ((x : A) → x ∈ l → p x ≡ q x) → all p l ≡ all q l
+  pub all-same : (p q : A → Bool) (l : List A) → ((x : A) → x ∈ l → p x ≡ q x) → allOf p l ≡ allOf q l
   all-same p q [] f = refl
   all-same p q (x ∷ xs) f = rw (f x (List·Memᴰ·head refl), all-same p q xs (λ y m. f y (List·Memᴰ·tail m)))
 
@@ -173,27 +173,27 @@ length-count a (suc n) = ap suc (length-count (suc a) n)
 
 -- ---- some, each number below n
 
-pub any-make : (n : ℕ) (f : ℕ → Bool) (i : ℕ) → i < n → f i ≡ true → any f (below n) ≡ true
-any-make n f i h e = true-T (any f (below n)) (any-in f (below-in h) (T-true (f i) e))
+pub any-make : (n : ℕ) (f : ℕ → Bool) (i : ℕ) → i < n → f i ≡ true → anyOf f (below n) ≡ true
+any-make n f i h e = true-T (anyOf f (below n)) (any-in f (below-in h) (T-true (f i) e))
 
-pub any-find : (n : ℕ) (f : ℕ → Bool) → any f (below n) ≡ true → (i : ℕ) × (i < n) × (f i ≡ true)
-any-find n f e = let r = any-out f (below n) (T-true (any f (below n)) e) in (r .0, below-out n (r .1), true-T (f (r .0)) (r .2))
+pub any-find : (n : ℕ) (f : ℕ → Bool) → anyOf f (below n) ≡ true → (i : ℕ) × (i < n) × (f i ≡ true)
+any-find n f e = let r = any-out f (below n) (T-true (anyOf f (below n)) e) in (r .0, below-out n (r .1), true-T (f (r .0)) (r .2))
 
-pub all-make : (n : ℕ) (f : ℕ → Bool) → ((i : ℕ) → i < n → f i ≡ true) → all f (below n) ≡ true
-all-make n f h = true-T (all f (below n)) (all-in f (below n) (λ i m. T-true (f i) (h i (below-out n m))))
+pub all-make : (n : ℕ) (f : ℕ → Bool) → ((i : ℕ) → i < n → f i ≡ true) → allOf f (below n) ≡ true
+all-make n f h = true-T (allOf f (below n)) (all-in f (below n) (λ i m. T-true (f i) (h i (below-out n m))))
 
-pub all-at : (n : ℕ) (f : ℕ → Bool) → all f (below n) ≡ true → (i : ℕ) → i < n → f i ≡ true
-all-at n f e i h = true-T (f i) (all-out f (T-true (all f (below n)) e) (below-in h))
+pub all-at : (n : ℕ) (f : ℕ → Bool) → allOf f (below n) ≡ true → (i : ℕ) → i < n → f i ≡ true
+all-at n f e i h = true-T (f i) (all-out f (T-true (allOf f (below n)) e) (below-in h))
 
 -- a number below n that passes, or none passes
 pub find : (n : ℕ) (f : ℕ → Bool) → ((i : ℕ) × (i < n) × (f i ≡ true)) ⊎ ((i : ℕ) → i < n → f i ≡ false)
-find n f = go (decide (any f (below n)))
+find n f = go (decide (anyOf f (below n)))
   where
-    fails : any f (below n) ≡ false → (i : ℕ) → i < n → (f i ≡ true) ⊎ (f i ≡ false) → f i ≡ false
-    fails e i h (inl t) = absurd (true-and-false (any f (below n)) (any-make n f i h t) e)
+    fails : anyOf f (below n) ≡ false → (i : ℕ) → i < n → (f i ≡ true) ⊎ (f i ≡ false) → f i ≡ false
+    fails e i h (inl t) = absurd (true-and-false (anyOf f (below n)) (any-make n f i h t) e)
     fails e i h (inr t) = t
 
-    go : (any f (below n) ≡ true) ⊎ (any f (below n) ≡ false) → ((i : ℕ) × (i < n) × (f i ≡ true)) ⊎ ((i : ℕ) → i < n → f i ≡ false)
+    go : (anyOf f (below n) ≡ true) ⊎ (anyOf f (below n) ≡ false) → ((i : ℕ) × (i < n) × (f i ≡ true)) ⊎ ((i : ℕ) → i < n → f i ≡ false)
     go (inl e) = inl (any-find n f e)
     go (inr e) = inr (λ i h. fails e i h (decide (f i)))
 

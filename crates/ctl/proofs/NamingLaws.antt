@@ -8,7 +8,7 @@ use native.Mathlib.Omega.{arith}
 use lib.Pow.{pow-pos, pow-add, high, low}
 use lib.ListN.{length, getD, length-map}
 use lib.Dec.{T, eqb, eqb-refl}
-use Rattle.ctl.specs.Lists.{_∈_, any, imp, below}
+use Rattle.ctl.specs.Lists.{_∈_, anyOf, imp, below}
 use Rattle.ctl.specs.Formula.{tru, lit}
 use Rattle.ctl.specs.Equality.{tag, num}
 use Rattle.ctl.specs.Snapshot.{Snapshot, NamesSingle}
@@ -53,7 +53,7 @@ module _ (S : Tableau) (s : Snapshot) (single : NamesSingle (S .name) s) where
   find-naming : (vs : List ℕ) → ((v : ℕ) → v ∈ vs → v ∈ namePlaces S) → Places vs
   unfolding Places obeysFrom
   find-naming [] sub = (0, pow-pos (length (otherPlaces S) * 0), λ i l. tt)
-  find-naming (v ∷ vs) sub = go (decide-T (any (λ i. inType (ty i) v) (below (s .n)))) (find-naming vs (λ w m. sub w (List·Memᴰ·tail m)))
+  find-naming (v ∷ vs) sub = go (decide-T (anyOf (λ i. inType (ty i) v) (below (s .n)))) (find-naming vs (λ w m. sub w (List·Memᴰ·tail m)))
     where
       c : ℕ
       c = length (otherPlaces S)
@@ -69,7 +69,7 @@ module _ (S : Tableau) (s : Snapshot) (single : NamesSingle (S .name) s) where
             (rw (high (rec .0) c l) (rec .2 i il)),
       )
 
-      go : T (any (λ i. inType (ty i) v) (below (s .n))) ⊎ (T (any (λ i. inType (ty i) v) (below (s .n))) → ⊥) → Places vs → Places (v ∷ vs)
+      go : T (anyOf (λ i. inType (ty i) v) (below (s .n))) ⊎ (T (anyOf (λ i. inType (ty i) v) (below (s .n))) → ⊥) → Places vs → Places (v ∷ vs)
       go (inl h) rec =
           let w = any-out (λ i. inType (ty i) v) (below (s .n)) h in
           with-set (pack (otherPlaces S) (ty (w .0))) (pack-lt (otherPlaces S) (ty (w .0)))

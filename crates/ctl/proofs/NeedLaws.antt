@@ -4,7 +4,7 @@ use mathlib.Core.Bool.{Bool, not, _&&_}
 use mathlib.Core.List.{List}
 use Prim.Native.Nat.{ℕ, zero, suc}
 use lib.Dec.{T, T-not, not-T}
-use Rattle.ctl.specs.Lists.{_∈_, any, all, imp, elem}
+use Rattle.ctl.specs.Lists.{_∈_, anyOf, allOf, imp, elem}
 use Rattle.ctl.specs.Formula.{Form, tru, fls, lit, nlit, and, or, ex, ax, eu, au, er, ar}
 use Rattle.ctl.specs.Modes.{single}
 use Rattle.ctl.specs.ClosedFamily.{linked, oneOf, Chain, stop, step, Ranked, Meets}
@@ -33,7 +33,7 @@ module _ (cl : List Form) (tr : ℕ → Form → Bool) (lk : ℕ → ℕ → ℕ
     chain-in {A} {p} {q} (stop m h) = reach-first fam (euTest tr lk A p) (λ t. tr t q) m h
     chain-in {A} {p} {q} (step {t = t} {u = u} m h l c) =
         reach-next fam (euTest tr lk A p) (λ t. tr t q) m
-        (and-in (tr t p) (any (linked lk A t) (good cl tr lk fam (eu A p q))) h (any-in (linked lk A t) (chain-in c) l))
+        (and-in (tr t p) (anyOf (linked lk A t) (good cl tr lk fam (eu A p q))) h (any-in (linked lk A t) (chain-in c) l))
 
     chain-out : (A : ℕ) (p q : Form) (t : ℕ) → t ∈ good cl tr lk fam (eu A p q) → Chain tr lk fam A p q t
     unfolding good euTest
@@ -41,8 +41,8 @@ module _ (cl : List Form) (tr : ℕ → Form → Bool) (lk : ℕ → ℕ → ℕ
       where
         more : (n : ℕ) (U : List ℕ) (t : ℕ) → t ∈ fam → ((u : ℕ) → u ∈ U → Chain tr lk fam A p q u) → T (euTest tr lk A p U t) → Chain tr lk fam A p q t
         more n U t i f h =
-            let r = any-out (linked lk A t) U (and-1 (tr t p) (any (linked lk A t) U) h) in
-            step i (and-0 (tr t p) (any (linked lk A t) U) h) (r .2) (f (r .0) (r .1))
+            let r = any-out (linked lk A t) U (and-1 (tr t p) (anyOf (linked lk A t) U) h) in
+            step i (and-0 (tr t p) (anyOf (linked lk A t) U) h) (r .2) (f (r .0) (r .1))
 
     -- AU's test, member by member of the closure
     exNext-in : (U : List ℕ) (A t : ℕ) → ((B : ℕ) (v : Form) → ex B v ∈ cl → T (oneOf A B) → T (tr t (ex B v)) → T (next tr lk U B v t)) → (p : Form) → p ∈ cl → T (exNext tr lk U A t p)
@@ -60,7 +60,7 @@ module _ (cl : List Form) (tr : ℕ → Form → Bool) (lk : ℕ → ℕ → ℕ
     exNext-in U A t f (er B p q) m = tt
     exNext-in U A t f (ar B p q) m = tt
 
-    exNext-out : (U : List ℕ) (A t : ℕ) → T (all (exNext tr lk U A t) cl) → (B : ℕ) (v : Form) → ex B v ∈ cl → T (oneOf A B) → T (tr t (ex B v)) → T (next tr lk U B v t)
+    exNext-out : (U : List ℕ) (A t : ℕ) → T (allOf (exNext tr lk U A t) cl) → (B : ℕ) (v : Form) → ex B v ∈ cl → T (oneOf A B) → T (tr t (ex B v)) → T (next tr lk U B v t)
     unfolding exNext
     exNext-out U A t h B v m o k = imp-out (tr t (ex B v)) (next tr lk U B v t) (imp-out (oneOf A B) (imp (tr t (ex B v)) (next tr lk U B v t)) (all-out (exNext tr lk U A t) h m) o) k
 
@@ -77,7 +77,7 @@ module _ (cl : List Form) (tr : ℕ → Form → Bool) (lk : ℕ → ℕ → ℕ
         go : ((u : ℕ) → Ranked cl tr lk fam A p q n u → u ∈ good cl tr lk fam (au A p q)) → t ∈ good cl tr lk fam (au A p q)
         go rec =
             reach-next fam (auTest cl tr lk A p) (λ t. tr t q) (r .0)
-            (and-in (tr t p) (all (exNext tr lk G A t) cl) (r .1)
+            (and-in (tr t p) (allOf (exNext tr lk G A t) cl) (r .1)
             (all-in (exNext tr lk G A t) cl (exNext-in G A t (λ B v m o h. let w = r .2 B v m o h in next-in G B v t (w .0) (rec (w .0) (w .3)) (w .1) (w .2)))))
 
     rank-out : (A : ℕ) (p q : Form) (t : ℕ) → t ∈ good cl tr lk fam (au A p q) → (n : ℕ) × Ranked cl tr lk fam A p q n t
@@ -88,9 +88,9 @@ module _ (cl : List Form) (tr : ℕ → Form → Bool) (lk : ℕ → ℕ → ℕ
         more n U t i f h =
             inr (
               i,
-              and-0 (tr t p) (all (exNext tr lk U A t) cl) h,
+              and-0 (tr t p) (allOf (exNext tr lk U A t) cl) h,
               λ B v m o k.
-                  let w = next-out U B v t (exNext-out U A t (and-1 (tr t p) (all (exNext tr lk U A t) cl) h) B v m o k) in (w .0, w .2, w .3, f (w .0) (w .1)),
+                  let w = next-out U B v t (exNext-out U A t (and-1 (tr t p) (allOf (exNext tr lk U A t) cl) h) B v m o k) in (w .0, w .2, w .3, f (w .0) (w .1)),
             )
 
     -- ---- a member fails exactly if it lacks something

@@ -5,7 +5,7 @@ use mathlib.Core.List.{List}
 use Prim.Native.Nat.{ℕ, zero, suc, _-_}
 use lib.ListN.{length}
 use lib.Dec.{eqb, ltb}
-use Rattle.ctl.specs.Lists.{_∈_, any, all, elem}
+use Rattle.ctl.specs.Lists.{_∈_, anyOf, allOf, elem}
 use Rattle.ctl.specs.Formula.{Form, tru, fls, lit, nlit, and, or, ex, ax, eu, au, er, ar}
 use Rattle.ctl.specs.Types.{truth}
 use Rattle.ctl.specs.Links.{linkRule, link, linkBy}
@@ -15,12 +15,12 @@ use Rattle.ctl.proofs.ListLaws.{any-in, any-out, all-in, all-out, keep-
 use Rattle.ctl.proofs.EliminationLaws.{round-fails}
 
 module _ (c d : List Form) (to : (p : Form) → p ∈ c → p ∈ d) (from : (p : Form) → p ∈ d → p ∈ c) where
-  all-order : (P : Form → Bool) → all P c ≡ all P d
-  all-order P = both-ways (all P c) (all P d) (λ h. all-in P d (λ p m. all-out P h (from p m))) (λ h. all-in P c (λ p m. all-out P h (to p m)))
+  all-order : (P : Form → Bool) → allOf P c ≡ allOf P d
+  all-order P = both-ways (allOf P c) (allOf P d) (λ h. all-in P d (λ p m. all-out P h (from p m))) (λ h. all-in P c (λ p m. all-out P h (to p m)))
 
-  any-order : (P : Form → Bool) → any P c ≡ any P d
+  any-order : (P : Form → Bool) → anyOf P c ≡ anyOf P d
   any-order P =
-      both-ways (any P c) (any P d) (λ h. (let r = any-out P c h in any-in P (to (r .0) (r .1)) (r .2))) (λ h. (let r = any-out P d h in any-in P (from (r .0) (r .1)) (r .2)))
+      both-ways (anyOf P c) (anyOf P d) (λ h. (let r = any-out P c h in any-in P (to (r .0) (r .1)) (r .2))) (λ h. (let r = any-out P d h in any-in P (from (r .0) (r .1)) (r .2)))
 
   -- ---- links
 
@@ -56,7 +56,7 @@ module _ (c d : List Form) (to : (p : Form) → p ∈ c → p ∈ d) (from : (p 
 
     fails-same : (fam : List ℕ) (t : ℕ) → fails c tr lk fam t ≡ fails d tr lk fam t
     unfolding fails
-    fails-same fam t = ap (λ f. any f c) (fun-ext (λ p. ap (λ g. tr t p && not (elem t g)) (good-same fam p))) ∙ any-order (λ p. tr t p && not (elem t (good d tr lk fam p)))
+    fails-same fam t = ap (λ f. anyOf f c) (fun-ext (λ p. ap (λ g. tr t p && not (elem t g)) (good-same fam p))) ∙ any-order (λ p. tr t p && not (elem t (good d tr lk fam p)))
 
     round-same : (fam : List ℕ) → round c tr lk fam ≡ round d tr lk fam
     round-same fam =

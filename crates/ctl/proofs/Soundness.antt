@@ -7,7 +7,7 @@ use Prim.Native.Nat.{ℕ, zero, suc, _+_, _-_, _^_, _<_}
 use native.Mathlib.Omega.{arith}
 use lib.Dec.{T, eqb→eq, ltb}
 use borrow.Author.Tests.{ltb-true, ltb-false}
-use Rattle.ctl.specs.Lists.{_∈_, all, imp, below}
+use Rattle.ctl.specs.Lists.{_∈_, allOf, imp, below}
 use Rattle.ctl.specs.Formula.{Form, tru, fls, lit, nlit, and, or, ex, ax, eu, au, er, ar}
 use Rattle.ctl.specs.Modes.{hasMode, modes, single}
 use Rattle.ctl.specs.Expansion.{parts}
@@ -141,7 +141,7 @@ module _ (S : Tableau) (proper : Proper S) (s : Snapshot) where
   -- a mode of B, which is one of the modes A
   among : (A B a : ℕ) → T (oneOf A B) → a ∈ modes B → a ∈ modes A
   unfolding oneOf
-  among A B a o k = modes-has A a (mode-lt (modes-in B k .0)) (all-out (hasMode A) (and-1 (single B) (all (hasMode A) (modes B)) o) k)
+  among A B a o k = modes-has A a (mode-lt (modes-in B k .0)) (all-out (hasMode A) (and-1 (single B) (allOf (hasMode A) (modes B)) o) k)
 
   ranked-right : (A : ℕ) (p q : Form) (k t : ℕ) → t ∈ nodeTypes → T (truth ln t q) → Ranked cl (truth ln) (linkBy cl ln) nodeTypes A p q k t
   ranked-right A p q zero t m h = (m, h)
@@ -184,7 +184,7 @@ module _ (S : Tableau) (proper : Proper S) (s : Snapshot) where
     unfolding startTypes starts
     starts-node i l =
         keep-in (starts S r) (below-in (type-lt S s i))
-        (and-in (obeys S r (ty i)) (all (truth ln (ty i)) globals) (fits i l) (all-in (truth ln (ty i)) globals (λ p m. true-node S proper s p i l (globals-in p m) (hold p m i l))))
+        (and-in (obeys S r (ty i)) (allOf (truth ln (ty i)) globals) (fits i l) (all-in (truth ln (ty i)) globals (λ p m. true-node S proper s p i l (globals-in p m) (hold p m i l))))
 
     closed-nodes : ClosedIn S r nodeTypes
     unfolding nodeTypes

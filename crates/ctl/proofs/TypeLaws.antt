@@ -3,7 +3,7 @@ use mathlib.Core.Path.{_≡_, refl, sym, ap, _∙_}
 use mathlib.Core.Bool.{_&&_, _||_, or-false, and-true}
 use mathlib.Core.List.{List, [], _∷_, map}
 use Prim.Native.Nat.{ℕ, _^_}
-use Rattle.ctl.specs.Lists.{_∈_, any, all}
+use Rattle.ctl.specs.Lists.{_∈_, anyOf, allOf}
 use Rattle.ctl.specs.Formula.{Form, tru, fls, lit, nlit, and, or, ex, ax, eu, au, er, ar}
 use Rattle.ctl.specs.Modes.{modes, allModes}
 use Rattle.ctl.specs.Expansion.{orAll, andAll, expand}
@@ -12,13 +12,13 @@ use Rattle.ctl.proofs.ListLaws.{any-same, all-same}
 use Rattle.ctl.proofs.ModeLaws.{modes-in, modes-one}
 
 module _ (ln : List Form) (t : ℕ) where
-  or-truth : (f : ℕ → Form) (ms : List ℕ) → truth ln t (orAll (map f ms)) ≡ any (λ m. truth ln t (f m)) ms
+  or-truth : (f : ℕ → Form) (ms : List ℕ) → truth ln t (orAll (map f ms)) ≡ anyOf (λ m. truth ln t (f m)) ms
   unfolding truth
   or-truth f [] = refl
   or-truth f (a ∷ []) = sym (or-false (truth ln t (f a)))
   or-truth f (a ∷ (b ∷ r)) = ap (λ c. truth ln t (f a) || c) (or-truth f (b ∷ r))
 
-  and-truth : (f : ℕ → Form) (ms : List ℕ) → truth ln t (andAll (map f ms)) ≡ all (λ m. truth ln t (f m)) ms
+  and-truth : (f : ℕ → Form) (ms : List ℕ) → truth ln t (andAll (map f ms)) ≡ allOf (λ m. truth ln t (f m)) ms
   unfolding truth
   and-truth f [] = refl
   and-truth f (a ∷ []) = sym (and-true (truth ln t (f a)))
@@ -27,11 +27,11 @@ module _ (ln : List Form) (t : ℕ) where
   -- EX and AX over one mode are true in the types that have their place
   pub truth-ex : {m : ℕ} → m ∈ allModes → (p : Form) → truth ln t (ex (2 ^ m) p) ≡ holds ln t (ex (2 ^ m) p)
   unfolding truth exSome
-  truth-ex {m} k p = ap (any (λ m. holds ln t (ex (2 ^ m) p))) (modes-one k) ∙ or-false (holds ln t (ex (2 ^ m) p))
+  truth-ex {m} k p = ap (anyOf (λ m. holds ln t (ex (2 ^ m) p))) (modes-one k) ∙ or-false (holds ln t (ex (2 ^ m) p))
 
   pub truth-ax : {m : ℕ} → m ∈ allModes → (p : Form) → truth ln t (ax (2 ^ m) p) ≡ holds ln t (ax (2 ^ m) p)
   unfolding truth axEvery
-  truth-ax {m} k p = ap (all (λ m. holds ln t (ax (2 ^ m) p))) (modes-one k) ∙ and-true (holds ln t (ax (2 ^ m) p))
+  truth-ax {m} k p = ap (allOf (λ m. holds ln t (ax (2 ^ m) p))) (modes-one k) ∙ and-true (holds ln t (ax (2 ^ m) p))
 
   -- every formula is true exactly where its expansion is
   pub truth-expand : (p : Form) → truth ln t p ≡ truth ln t (expand p)

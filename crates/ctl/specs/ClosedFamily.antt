@@ -4,19 +4,19 @@ use mathlib.Core.Bool.{Bool, _&&_}
 use mathlib.Core.List.{List}
 use Prim.Native.Nat.{ℕ, zero, suc}
 use lib.Dec.{T}
-use Rattle.ctl.specs.Lists.{_∈_, any, all}
+use Rattle.ctl.specs.Lists.{_∈_, anyOf, allOf}
 use Rattle.ctl.specs.Formula.{Form, ex, eu, au}
 use Rattle.ctl.specs.Modes.{hasMode, modes, single}
 
 -- u is linked to t by one of the modes A; `lk` links types by a mode
 unfoldable pub linked : (ℕ → ℕ → ℕ → Bool) → ℕ → ℕ → ℕ → Bool
 unfolding modes
-linked lk A t u = any (λ m. lk m t u) (modes A)
+linked lk A t u = anyOf (λ m. lk m t u) (modes A)
 
 -- B is one mode, and among the modes A
 unfoldable pub oneOf : ℕ → ℕ → Bool
 unfolding single modes
-oneOf A B = single B && all (hasMode A) (modes B)
+oneOf A B = single B && allOf (hasMode A) (modes B)
 
 -- `tr` says which formulas are true in a type, `fam` is the family
 module _ (tr : ℕ → Form → Bool) (lk : ℕ → ℕ → ℕ → Bool) (fam : List ℕ) where

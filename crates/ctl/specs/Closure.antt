@@ -2,7 +2,7 @@
 use mathlib.Core.Bool.{Bool, not}
 use mathlib.Core.List.{List, [], _∷_, _++_}
 use Prim.Native.Nat.{ℕ}
-use Rattle.ctl.specs.Lists.{_∈_, any, put}
+use Rattle.ctl.specs.Lists.{_∈_, anyOf, put}
 use Rattle.ctl.specs.Formula.{Form, tru, fls, lit, nlit, and, or, ex, ax, eu, au, er, ar}
 use Rattle.ctl.specs.Modes.{modes}
 use Rattle.ctl.specs.Equality.{formEq}
@@ -23,7 +23,7 @@ pub data Unique : List Form → Type 0 where
 -- ---- and how it is computed
 
 unfoldable pub elemF : Form → List Form → Bool
-elemF p l = any (formEq p) l
+elemF p l = anyOf (formEq p) l
 
 unfoldable pub dedupe : List Form → List Form
 unfolding elemF

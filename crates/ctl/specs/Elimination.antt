@@ -5,7 +5,7 @@ use mathlib.Core.List.{List, map}
 use Prim.Native.Nat.{ℕ, zero, suc}
 use lib.ListN.{length}
 use lib.Dec.{eqb}
-use Rattle.ctl.specs.Lists.{any, all, keep, imp, elem}
+use Rattle.ctl.specs.Lists.{anyOf, allOf, keep, imp, elem}
 use Rattle.ctl.specs.Formula.{Form, tru, fls, lit, nlit, and, or, ex, ax, eu, au, er, ar}
 use Rattle.ctl.specs.Modes.{single}
 use Rattle.ctl.specs.ClosedFamily.{linked, oneOf}
@@ -35,7 +35,7 @@ module _ (tr : ℕ → Form → Bool) (lk : ℕ → ℕ → ℕ → Bool) where
   -- a member of U that is linked to t by one of the modes A, with p
   unfoldable pub next : List ℕ → ℕ → Form → ℕ → Bool
   unfolding linked
-  next U A p t = any (λ u. tr u p && linked lk A t u) U
+  next U A p t = anyOf (λ u. tr u p && linked lk A t u) U
 
   -- a formula that is EX over one of the modes A, and true in t, has its next in U
   unfoldable pub exNext : List ℕ → ℕ → ℕ → Form → Bool
@@ -56,13 +56,13 @@ module _ (tr : ℕ → Form → Bool) (lk : ℕ → ℕ → ℕ → Bool) where
   -- one step of a chain to U, for EU
   unfoldable pub euTest : ℕ → Form → List ℕ → ℕ → Bool
   unfolding linked
-  euTest A p U t = tr t p && any (linked lk A t) U
+  euTest A p U t = tr t p && anyOf (linked lk A t) U
 
 module _ (cl : List Form) (tr : ℕ → Form → Bool) (lk : ℕ → ℕ → ℕ → Bool) where
   -- a rank above those in U, for AU
   unfoldable pub auTest : ℕ → Form → List ℕ → ℕ → Bool
   unfolding exNext
-  auTest A p U t = tr t p && all (exNext tr lk U A t) cl
+  auTest A p U t = tr t p && allOf (exNext tr lk U A t) cl
 
   -- the members of a family that have what a closure member asks for where it is true
   unfoldable pub good : List ℕ → Form → List ℕ
@@ -83,7 +83,7 @@ module _ (cl : List Form) (tr : ℕ → Form → Bool) (lk : ℕ → ℕ → ℕ
   -- t fails against a family: some closure member is true in t, and t has not what it asks for
   unfoldable pub fails : List ℕ → ℕ → Bool
   unfolding good
-  fails fam t = any (λ p. tr t p && not (elem t (good fam p))) cl
+  fails fam t = anyOf (λ p. tr t p && not (elem t (good fam p))) cl
 
   -- ---- rounds
 
@@ -92,7 +92,7 @@ module _ (cl : List Form) (tr : ℕ → Form → Bool) (lk : ℕ → ℕ → ℕ
   unfolding good elem
   round fam =
       let goods : List (Form × List ℕ) = map (λ p. (p, good fam p)) cl in
-      keep (λ t. not (any (λ g. tr t (g .0) && not (elem t (g .1))) goods)) fam
+      keep (λ t. not (anyOf (λ g. tr t (g .0) && not (elem t (g .1))) goods)) fam
 
   -- family r
   unfoldable pub families : List ℕ → ℕ → List ℕ

@@ -4,7 +4,7 @@ use Prim.Native.Nat.{ℕ, zero, suc}
 use mathlib.Core.Bool.{Bool, true, false, not, _&&_, _||_}
 use mathlib.Core.List.{List, map}
 use lib.ListN.{getD}
-use Rattle.ctl.specs.Lists.{any, all, imp, below}
+use Rattle.ctl.specs.Lists.{anyOf, allOf, imp, below}
 use Rattle.ctl.specs.Formula.{Form, tru, fls, lit, nlit, and, or, ex, ax, eu, au, er, ar}
 use Rattle.ctl.specs.Modes.{modes}
 use Rattle.ctl.specs.Snapshot.{Snapshot, step}
@@ -29,10 +29,10 @@ rounds n F (suc k) = round n F (rounds n F k)
 module _ (n : ℕ) (edge : ℕ → ℕ → Bool) where
   -- x at some next node, x at each next node
   abbrev pub someNext : (ℕ → Bool) → ℕ → Bool
-  someNext x i = any (λ j. edge i j && x j) (below n)
+  someNext x i = anyOf (λ j. edge i j && x j) (below n)
 
   abbrev pub eachNext : (ℕ → Bool) → ℕ → Bool
-  eachNext x i = all (λ j. imp (edge i j) (x j)) (below n)
+  eachNext x i = allOf (λ j. imp (edge i j) (x j)) (below n)
 
   -- a round of E(pUq) and of A(pUq)
   abbrev pub roundEU : (ℕ → Bool) → (ℕ → Bool) → (ℕ → Bool) → ℕ → Bool
@@ -66,7 +66,7 @@ tableNot n x = table n (λ i. not (look x i))
 
 -- some mode of A leads from node i to node j
 unfoldable pub leads : Snapshot → ℕ → ℕ → ℕ → Bool
-leads s A i j = any (λ m. step s m i j) (modes A)
+leads s A i j = anyOf (λ m. step s m i j) (modes A)
 
 -- the row of a formula; ER and AR through their duals
 unfoldable pub row : Snapshot → Form → List Bool

@@ -3,7 +3,7 @@ use mathlib.Core.Bool.{Bool, true, false, _&&_, _||_}
 use mathlib.Core.List.{List}
 use Prim.Native.Nat.{ℕ, _+_, _-_, _^_}
 use lib.Dec.{eqb, ltb}
-use Rattle.ctl.specs.Lists.{all, imp}
+use Rattle.ctl.specs.Lists.{allOf, imp}
 use Rattle.ctl.specs.Formula.{Form, tru, fls, lit, nlit, and, or, ex, ax, eu, au, er, ar}
 use Rattle.ctl.specs.Modes.{hasMode}
 use Rattle.ctl.specs.Types.{truth}
@@ -29,7 +29,7 @@ module _ (cl ln : List Form) where
   -- a link by field m from type t to type u
   unfoldable pub link : ℕ → ℕ → ℕ → Bool
   unfolding linkRule
-  link m t u = all (linkRule ln m t u) cl
+  link m t u = allOf (linkRule ln m t u) cl
 
   -- a link by a mode: a backward link is the reverse of the forward one
   unfoldable pub linkBy : ℕ → ℕ → ℕ → Bool

@@ -21,13 +21,13 @@ put false x l = l
 
 module _ {ℓ} {A : Type ℓ} where
   -- some, or every, element passes the test. The `let` keeps the rest of the list from being looked at where it does not matter.
-  abbrev pub any : (A → Bool) → List A → Bool
-  any p [] = false
-  any p (x ∷ xs) = let rest = any p xs in p x || rest
+  abbrev pub anyOf : (A → Bool) → List A → Bool
+  anyOf p [] = false
+  anyOf p (x ∷ xs) = let rest = anyOf p xs in p x || rest
 
-  abbrev pub all : (A → Bool) → List A → Bool
-  all p [] = true
-  all p (x ∷ xs) = let rest = all p xs in p x && rest
+  abbrev pub allOf : (A → Bool) → List A → Bool
+  allOf p [] = true
+  allOf p (x ∷ xs) = let rest = allOf p xs in p x && rest
 
   -- the elements that pass the test, in their order
   abbrev pub keep : (A → Bool) → List A → List A
@@ -36,7 +36,7 @@ module _ {ℓ} {A : Type ℓ} where
 
 -- the number is in the list
 unfoldable pub elem : ℕ → List ℕ → Bool
-elem n l = any (eqb n) l
+elem n l = anyOf (eqb n) l
 
 -- the n numbers from a on
 abbrev pub countFrom : ℕ → ℕ → List ℕ

@@ -3,7 +3,7 @@ use mathlib.Core.Bool.{Bool}
 use mathlib.Core.List.{List, [], _∷_}
 use Prim.Native.Nat.{ℕ, _^_}
 use lib.Dec.{eqb}
-use Rattle.ctl.specs.Lists.{any, keep}
+use Rattle.ctl.specs.Lists.{anyOf, keep}
 use Rattle.ctl.specs.Numbers.{hasBit}
 
 abbrev pub hasMode : ℕ → ℕ → Bool
@@ -18,4 +18,4 @@ modes A = keep (hasMode A) allModes
 
 -- a set of one mode
 unfoldable pub single : ℕ → Bool
-single A = any (λ m. eqb A (2 ^ m)) allModes
+single A = anyOf (λ m. eqb A (2 ^ m)) allModes

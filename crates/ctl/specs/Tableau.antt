@@ -4,7 +4,7 @@ use mathlib.Core.List.{List, [], _∷_, _++_, map}
 use Prim.Native.Nat.{ℕ, _*_, _/_, _%_, _^_}
 use lib.ListN.{length, getD}
 use lib.Dec.{eqb}
-use Rattle.ctl.specs.Lists.{all, keep, imp, below}
+use Rattle.ctl.specs.Lists.{allOf, keep, imp, below}
 use Rattle.ctl.specs.Numbers.{number}
 use Rattle.ctl.specs.Formula.{Form, tru}
 use Rattle.ctl.specs.Equality.{num}
@@ -63,7 +63,7 @@ module _ (S : Tableau) where
   -- the start types under naming r: those that obey it and make all globals true
   unfoldable pub starts : ℕ → ℕ → Bool
   unfolding obeys truth
-  starts r t = obeys r t && all (truth (S .ln) t) (S .globals)
+  starts r t = obeys r t && allOf (truth (S .ln) t) (S .globals)
 
   unfoldable pub startTypes : ℕ → List ℕ
   unfolding starts

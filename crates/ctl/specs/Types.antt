@@ -2,7 +2,7 @@
 use mathlib.Core.Bool.{Bool, true, false, not, _&&_, _||_}
 use mathlib.Core.List.{List, [], _∷_}
 use Prim.Native.Nat.{ℕ, suc, _^_}
-use Rattle.ctl.specs.Lists.{any, all}
+use Rattle.ctl.specs.Lists.{anyOf, allOf}
 use Rattle.ctl.specs.Numbers.{hasBit}
 use Rattle.ctl.specs.Formula.{Form, tru, fls, lit, nlit, and, or, ex, ax, eu, au, er, ar}
 use Rattle.ctl.specs.Modes.{modes}
@@ -26,11 +26,11 @@ module _ (ln : List Form) where
   -- EX, or AX, over A, through its single modes
   unfoldable pub exSome : ℕ → ℕ → Form → Bool
   unfolding holds modes
-  exSome t A p = any (λ m. holds t (ex (2 ^ m) p)) (modes A)
+  exSome t A p = anyOf (λ m. holds t (ex (2 ^ m) p)) (modes A)
 
   unfoldable pub axEvery : ℕ → ℕ → Form → Bool
   unfolding holds modes
-  axEvery t A p = all (λ m. holds t (ax (2 ^ m) p)) (modes A)
+  axEvery t A p = allOf (λ m. holds t (ax (2 ^ m) p)) (modes A)
 
   -- Truth of a closure member in a type, through the expansions. (A formula outside the closure gets a value too, which means nothing: its EX and AX have no
   -- place in the lean.)

@@ -9,7 +9,7 @@ use mathlib.Core.List.{List}
 use lib.Dec.{eqb, ltb}
 use borrow.Author.Tests.{le-ltb, lt-ltb, ltb-false, ltb-true}
 use Rattle.ctl.specs.Evaluator.{leads}
-use Rattle.ctl.specs.Lists.{any, below}
+use Rattle.ctl.specs.Lists.{anyOf, below}
 use Rattle.ctl.specs.Modes.{hasMode}
 use Rattle.ctl.specs.Snapshot.{follows, step}
 use Rattle.ctl.proofs.BoolLaws.{and-both, and-make, decide, false-of, or-cases, or-left, or-right, same-test, true-and-false}
@@ -41,7 +41,7 @@ leads-yes out A i j f h e = sym (any-make 8 (fieldLeads out A i j) f h e)
 pub leads-no : (out : List ℕ) (A i j f : ℕ) → 8 ≤ f → ((g : ℕ) → g < f → fieldLeads out A i j g ≡ false) → false ≡ leadsAt out A i j
 unfolding leadsAt
 leads-no out A i j f h e =
-    sym (false-of (any (fieldLeads out A i j) (below 8)) (λ t.
+    sym (false-of (anyOf (fieldLeads out A i j) (below 8)) (λ t.
     let r = any-find 8 (fieldLeads out A i j) t in
     true-and-false (fieldLeads out A i j (r .0)) (r .2) (e (r .0) (let k = r .1 in omega arith))))
 

@@ -15,7 +15,7 @@ use Rattle.wordset.specs.Word.{bit}
 use Rattle.wordset.proofs.BitLaws.{bit-and, bit-ext, bit-none, bit-or, bit-wordOf, wordOf-lt}
 use Rattle.wordset.proofs.WordLaws.{filled-at}
 use Rattle.ctl.specs.Evaluator.{eachNext, leads, roundAU, roundEU, someNext}
-use Rattle.ctl.specs.Lists.{any, below}
+use Rattle.ctl.specs.Lists.{anyOf, below}
 use Rattle.ctl.proofs.BoolLaws.{decide, false-of, true-and-false}
 use Rattle.ctl.proofs.Fixpoint.{after, after-suc, after-zero}
 use Rattle.ctl.proofs.ListLaws.{any-find, any-make, any-same, below-out}
@@ -26,17 +26,17 @@ use Rattle.evaluator.proofs.EdgeLaws.{leads-same}
 use Rattle.evaluator.proofs.NodeLaws.{bit-flip, bit-full}
 
 -- a set of numbers below n is not 0 exactly if it has one
-not-zero : (n w : ℕ) → w < 2 ^ n → not (eqb w 0) ≡ any (bit w) (below n)
-not-zero n w h = go (decide (any (bit w) (below n))) (decide (eqb w 0))
+not-zero : (n w : ℕ) → w < 2 ^ n → not (eqb w 0) ≡ anyOf (bit w) (below n)
+not-zero n w h = go (decide (anyOf (bit w) (below n))) (decide (eqb w 0))
   where
-    go : (any (bit w) (below n) ≡ true) ⊎ (any (bit w) (below n) ≡ false) → (eqb w 0 ≡ true) ⊎ (eqb w 0 ≡ false) → not (eqb w 0) ≡ any (bit w) (below n)
+    go : (anyOf (bit w) (below n) ≡ true) ⊎ (anyOf (bit w) (below n) ≡ false) → (eqb w 0 ≡ true) ⊎ (eqb w 0 ≡ false) → not (eqb w 0) ≡ anyOf (bit w) (below n)
     go (inl a) (inr e) = ap not e ∙ sym a
     go (inr a) (inl e) = ap not e ∙ sym a
     go (inl a) (inl e) =
         let r = any-find n (bit w) a in
         absurd (true-and-false (bit w (r .0)) (r .2) (ap (λ x. bit x (r .0)) (eqb-true w 0 e) ∙ bit-none (r .0)))
     go (inr a) (inr e) =
-        absurd (true-and-false (eqb w 0) (eq-eqb w 0 (bit-ext n w 0 h (pow-pos n) (λ i l. false-of (bit w i) (λ t. true-and-false (any (bit w) (below n)) (any-make n (bit w) i l t) a) ∙ sym (bit-none i)))) e)
+        absurd (true-and-false (eqb w 0) (eq-eqb w 0 (bit-ext n w 0 h (pow-pos n) (λ i l. false-of (bit w i) (λ t. true-and-false (anyOf (bit w) (below n)) (any-make n (bit w) i l t) a) ∙ sym (bit-none i)))) e)
 
 module _ (out : List ℕ) (n : ℕ) (hn : n ≤ 16) (A : ℕ) where
   abbrev edge : ℕ → ℕ → Bool

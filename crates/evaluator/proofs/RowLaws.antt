@@ -10,7 +10,7 @@ use mathlib.Core.List.{List, _++_, map}
 use lib.Bits.{bitAnd, and-le-l}
 use lib.ListN.{length, getD, drop, length-append, length-drop, List·getD-append}
 use lib.Seq.{ext-getD, getD-append-add, getD-drop}
-use Rattle.wordset.specs.Below.{all}
+use Rattle.wordset.specs.Below.{allBelow}
 use Rattle.wordset.specs.Word.{bit, wordOf}
 use Rattle.wordset.specs.Words.{filled}
 use Rattle.wordset.proofs.BelowLaws.{all-ext}
@@ -32,14 +32,14 @@ cond-le r v false e = omega arith
 
 module _ (sets members : List ℕ) (n : ℕ) where
   abbrev pub inAll : ℕ → ℕ → Bool
-  inAll k i = all k (λ j. bit (getD sets (getD members j 0) 0) i)
+  inAll k i = allBelow k (λ j. bit (getD sets (getD members j 0) 0) i)
 
   pub all-begin : (x : ℕ) → x ≡ fullWord n → x ≡ wordOf n (inAll 0)
-  unfolding fullWord all
+  unfolding fullWord allBelow
   all-begin x e = e
 
   pub all-on : (k x w : ℕ) → x ≡ wordOf n (inAll k) → w ≡ getD sets (getD members k 0) 0 → bitAnd x w ≡ wordOf n (inAll (k + 1))
-  unfolding all
+  unfolding allBelow
   all-on k x w e f =
       ap₂ bitAnd e f
       ∙ wordOf-is n (inAll (suc k)) (bitAnd (wordOf n (inAll k)) (getD sets (getD members k 0) 0))

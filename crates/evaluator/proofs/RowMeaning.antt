@@ -8,7 +8,7 @@ use mathlib.Core.List.{List, map}
 use lib.ListN.{getD, length, length-map}
 use Rattle.ctl.specs.Evaluator.{sat}
 use Rattle.ctl.specs.Formula.{Form}
-use Rattle.ctl.specs.Lists.{_∈_, all, below}
+use Rattle.ctl.specs.Lists.{_∈_, allOf, below}
 use Rattle.ctl.specs.Meaning.{HoldsRaw}
 use Rattle.ctl.specs.Positive.{positive}
 use Rattle.ctl.specs.Raw.{Raw}
@@ -52,7 +52,7 @@ module _ (s : Snapshot) (goal : Raw) (globals : List Raw) (i : ℕ) (h : i < s .
   holds g = sat s (positive g) i
 
   each : Bool
-  each = all (λ g. sat s g i) (map positive globals)
+  each = allOf (λ g. sat s g i) (map positive globals)
 
   pub goal-bit : (getD (rowOf s (positive goal) (map positive globals)) i 0 % 2 ≡ 1) ↔ HoldsRaw s goal i
   unfolding holds each

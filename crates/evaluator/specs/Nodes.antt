@@ -9,7 +9,7 @@ use lib.ListN.{getD, length, replicate}
 use Rattle.wordset.specs.Word.{bit, wordOf}
 use Rattle.wordset.specs.Words.{filled}
 use Rattle.wordset.specs.Below as W
-use Rattle.ctl.specs.Lists.{any, below}
+use Rattle.ctl.specs.Lists.{anyOf, below}
 use Rattle.ctl.specs.Modes.{hasMode}
 use Rattle.closure.specs.Members.{argW, tagW}
 use Rattle.snapshot.specs.Store.{entryAt}
@@ -26,7 +26,7 @@ onWord out n k = wordOf n (λ i. eqb (entryAt out i k) 1)
 
 -- the nodes that are in each set of these members
 unfoldable pub allWord : List ℕ → List ℕ → ℕ → ℕ
-allWord sets members n = wordOf n (λ i. W.all (length members) (λ k. bit (getD sets (getD members k 0) 0) i))
+allWord sets members n = wordOf n (λ i. W.allBelow (length members) (λ k. bit (getD sets (getD members k 0) 0) i))
 
 -- ---- edges
 
@@ -40,7 +40,7 @@ fieldLeads out A i j f = byMode out A f f i j || byMode out A (f + 8) f j i
 
 -- some mode of A leads from i to j
 unfoldable pub leadsAt : List ℕ → ℕ → ℕ → ℕ → Bool
-leadsAt out A i j = any (fieldLeads out A i j) (below 8)
+leadsAt out A i j = anyOf (fieldLeads out A i j) (below 8)
 
 -- the nodes after i
 unfoldable pub nextWord : List ℕ → ℕ → ℕ → ℕ → ℕ

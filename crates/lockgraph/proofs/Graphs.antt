@@ -15,7 +15,7 @@ use Rattle.ctl.specs.Tableau.{namings, startTypes}
 use Rattle.ctl.specs.Verdict.{roundsOf, survivingTypes, verdict}
 use Rattle.ctl.specs.Evaluator.{leads, rounds, row, sat, tableAU, tableEU}
 use Rattle.ctl.specs.Snapshot.{step}
-use Rattle.wordset.specs.Below.{all, any, count}
+use Rattle.wordset.specs.Below.{allBelow, anyBelow, countBelow}
 use Rattle.evaluator.specs.Rows.{rowOf}
 use Rattle.snapshot.specs.Read.{byteStep, fits, judged, lineCount, lineFits, lineStore, readSnapshot, run, starts, twice}
 use Rattle.snapshot.specs.Store.{entryAt, ofStore}
@@ -78,7 +78,7 @@ abbrev rowLeft : List ℕ → List ℕ → ℕ → List ℕ
 rowLeft s t n = snapshotRow s t (snapshotRefusal s t n) (replicate n 0)
 
 computed : Graph → Graph
-unfolding andSpine axSpine closure closureAll closureOf dedupe elemF exSpine orSpine spine sheetTableau expand parts bytesLt isNext lean printLt symbolLt modes single signed namings startTypes roundsOf survivingTypes verdict begins ended has same split anyLong byteWrong declare declared endsRight kindOf kindRight kindsFrom kindsOf layoutRight lengthWrong nameCount nameRight namesFrom namesOf startsRight textsOf pairAt pairOf signOf singleOf skip spaces tokenAt tokenFrom choiceOf bracesAt markedOf modeAt modesAt withMode formulaAt letterLow lineAt pathFrom unitAt trees globalsOf goalOf bracesWrong conditions grammarWrong symbolsWrong refusalWithin tableRefusal verdictIn verdictOf wordsIn step leads row rounds tableEU tableAU sat rowOf ofStore entryAt byteStep run starts lineCount lineStore lineFits fits twice judged readSnapshot snapshotRefusal all any count
+unfolding andSpine axSpine closure closureAll closureOf dedupe elemF exSpine orSpine spine sheetTableau expand parts bytesLt isNext lean printLt symbolLt modes single signed namings startTypes roundsOf survivingTypes verdict begins ended has same split anyLong byteWrong declare declared endsRight kindOf kindRight kindsFrom kindsOf layoutRight lengthWrong nameCount nameRight namesFrom namesOf startsRight textsOf pairAt pairOf signOf singleOf skip spaces tokenAt tokenFrom choiceOf bracesAt markedOf modeAt modesAt withMode formulaAt letterLow lineAt pathFrom unitAt trees globalsOf goalOf bracesWrong conditions grammarWrong symbolsWrong refusalWithin tableRefusal verdictIn verdictOf wordsIn step leads row rounds tableEU tableAU sat rowOf ofStore entryAt byteStep run starts lineCount lineStore lineFits fits twice judged readSnapshot snapshotRefusal allBelow anyBelow countBelow
 computed g = record {
   sheet = g .sheet;
   verdict = map (λ v. verdictOf (g .sheet)) (g .verdict);

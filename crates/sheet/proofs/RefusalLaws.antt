@@ -8,7 +8,7 @@ use native.Mathlib.Omega.{arith}
 use lib.Dec.{eqb, ltb}
 use lib.ListN.{length}
 use borrow.Author.Tests.{eqb-true, ne-eqb, not-false}
-use Rattle.ctl.specs.Lists.{_∈_, any}
+use Rattle.ctl.specs.Lists.{_∈_, anyOf}
 use Rattle.ctl.proofs.BoolLaws.{true-and-false}
 use Rattle.syntax.specs.Parse.{Out, good, bad}
 use Rattle.layout.specs.Layout.{lengthWrong, byteWrong, kinds, layoutRight, letters, texts, layoutRefusal}
@@ -51,16 +51,16 @@ low-line x y z (good p e l) = low-found x y z (eqb l 7) (eqb l 8)
 
 module _ (decl : List ℕ) where
   lowest-is : (x y z : Bool) (ts : List (List ℕ))
-      → lowest (low x y z) decl ts ≡ low (x || any (λ t. unread (read decl t)) ts) (y || any (λ t. finds 7 (read decl t)) ts) (z || any (λ t. finds 8 (read decl t)) ts)
+      → lowest (low x y z) decl ts ≡ low (x || anyOf (λ t. unread (read decl t)) ts) (y || anyOf (λ t. finds 7 (read decl t)) ts) (z || anyOf (λ t. finds 8 (read decl t)) ts)
   unfolding lowest
   lowest-is x y z [] = rw (or-false x, or-false y, or-false z)
   lowest-is x y z (t ∷ ts) =
       let o = read decl t in
       ap (λ m. lowest m decl ts) (low-line x y z o) ∙ lowest-is (x || unread o) (y || finds 7 o) (z || finds 8 o) ts
       ∙ rw (
-        or-assoc x (unread o) (any (λ t. unread (read decl t)) ts),
-        or-assoc y (finds 7 o) (any (λ t. finds 7 (read decl t)) ts),
-        or-assoc z (finds 8 o) (any (λ t. finds 8 (read decl t)) ts),
+        or-assoc x (unread o) (anyOf (λ t. unread (read decl t)) ts),
+        or-assoc y (finds 7 o) (anyOf (λ t. finds 7 (read decl t)) ts),
+        or-assoc z (finds 8 o) (anyOf (λ t. finds 8 (read decl t)) ts),
       )
 
 low-first : (a b c : Bool) → cond (ltb (low a b c) 9) (low a b c) 0 ≡ firstOf 6 (a ∷ b ∷ c ∷ [])

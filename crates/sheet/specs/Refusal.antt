@@ -4,7 +4,7 @@ use mathlib.Core.List.{List, [], _∷_}
 use Prim.Native.Nat.{ℕ, suc}
 use lib.ListN.{length}
 use lib.Dec.{eqb}
-use Rattle.ctl.specs.Lists.{any}
+use Rattle.ctl.specs.Lists.{anyOf}
 use Rattle.syntax.specs.Parse.{Out, good, bad, lineAt}
 use Rattle.layout.specs.Layout.{lengthWrong, byteWrong, layoutRight, letters, kinds, texts, declared}
 
@@ -34,14 +34,14 @@ kindsWrong s = not (eqb (length (kinds s)) (length (letters s)))
 
 -- 6, grammar: a formula does not parse
 unfoldable pub grammarWrong : List ℕ → Bool
-grammarWrong s = any (λ t. unread (read (decls s) t)) (texts s)
+grammarWrong s = anyOf (λ t. unread (read (decls s) t)) (texts s)
 
 -- 7, symbol: undeclared, or wrong kind for its position. 8, braces: empty, or a mode twice (in a formula with no such symbol)
 unfoldable pub symbolsWrong : List ℕ → Bool
-symbolsWrong s = any (λ t. finds 7 (read (decls s) t)) (texts s)
+symbolsWrong s = anyOf (λ t. finds 7 (read (decls s) t)) (texts s)
 
 unfoldable pub bracesWrong : List ℕ → Bool
-bracesWrong s = any (λ t. finds 8 (read (decls s) t)) (texts s)
+bracesWrong s = anyOf (λ t. finds 8 (read (decls s) t)) (texts s)
 
 -- the number of the first that applies, counted from k; 0 where none does
 abbrev pub firstOf : ℕ → List Bool → ℕ

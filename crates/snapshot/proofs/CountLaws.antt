@@ -4,28 +4,28 @@ use native.Mathlib.Omega.{arith}
 use mathlib.Core.Path.{_≡_, refl, sym, ap, _∙_}
 use mathlib.Core.Logic.{_⊎_, inl, inr}
 use mathlib.Core.Bool.{Bool, true, false, _&&_, true≢false}
-use Rattle.wordset.specs.Below.{one, all, any, count, least}
+use Rattle.wordset.specs.Below.{one, allBelow, anyBelow, countBelow, least}
 use Rattle.wordset.proofs.BelowLaws.{top, least-lt, least-holds}
 
 module _ (P : ℕ → Bool) where
-  pub some-fails : (n : ℕ) → all n P ≡ false → (i : ℕ) × (i < n) × (P i ≡ false)
-  unfolding all
+  pub some-fails : (n : ℕ) → allBelow n P ≡ false → (i : ℕ) × (i < n) × (P i ≡ false)
+  unfolding allBelow
   some-fails zero e = absurd (true≢false e)
-  some-fails (suc n) e = go (all n P) refl e (some-fails n)
+  some-fails (suc n) e = go (allBelow n P) refl e (some-fails n)
     where
-      go : (b : Bool) → all n P ≡ b → (b && P n) ≡ false → (all n P ≡ false → (i : ℕ) × (i < n) × (P i ≡ false)) → (i : ℕ) × (i < suc n) × (P i ≡ false)
+      go : (b : Bool) → allBelow n P ≡ b → (b && P n) ≡ false → (allBelow n P ≡ false → (i : ℕ) × (i < n) × (P i ≡ false)) → (i : ℕ) × (i < suc n) × (P i ≡ false)
       go true f e ih = (n, omega arith, e)
       go false f e ih = let r = ih f in (r .0, (let h = r .1 in omega arith), r .2)
 
-  pub some-passes : (n : ℕ) → any n P ≡ true → (i : ℕ) × (i < n) × (P i ≡ true)
+  pub some-passes : (n : ℕ) → anyBelow n P ≡ true → (i : ℕ) × (i < n) × (P i ≡ true)
   some-passes n e = let h = least-lt n P e in (least n P, h, least-holds n P h)
 
-  one-counted : (n : ℕ) → 1 ≤ count n P → (i : ℕ) × (i < n) × (P i ≡ true)
-  unfolding count
+  one-counted : (n : ℕ) → 1 ≤ countBelow n P → (i : ℕ) × (i < n) × (P i ≡ true)
+  unfolding countBelow
   one-counted zero h = absurd (omega arith)
   one-counted (suc n) h = go (P n) refl h (one-counted n)
     where
-      go : (b : Bool) → P n ≡ b → 1 ≤ count n P + one b → (1 ≤ count n P → (i : ℕ) × (i < n) × (P i ≡ true)) → (i : ℕ) × (i < suc n) × (P i ≡ true)
+      go : (b : Bool) → P n ≡ b → 1 ≤ countBelow n P + one b → (1 ≤ countBelow n P → (i : ℕ) × (i < n) × (P i ≡ true)) → (i : ℕ) × (i < suc n) × (P i ≡ true)
       go true e h ih = (n, omega arith, e)
       go false e h ih = let r = ih (omega arith) in (r .0, (let l = r .1 in omega arith), r .2)
 
@@ -38,12 +38,12 @@ module _ (P : ℕ → Bool) where
     pub first-passes : P first ≡ true
     pub second-passes : P second ≡ true
 
-  pub two-counted : (n : ℕ) → 2 ≤ count n P → Two n
-  unfolding count
+  pub two-counted : (n : ℕ) → 2 ≤ countBelow n P → Two n
+  unfolding countBelow
   two-counted zero h = absurd (omega arith)
   two-counted (suc n) h = go (P n) refl h (two-counted n)
     where
-      go : (b : Bool) → P n ≡ b → 2 ≤ count n P + one b → (2 ≤ count n P → Two n) → Two (suc n)
+      go : (b : Bool) → P n ≡ b → 2 ≤ countBelow n P + one b → (2 ≤ countBelow n P → Two n) → Two (suc n)
       go true e h ih =
           let r = one-counted n (omega arith) in
           record { first = r .0; second = n; apart = r .1; within = omega arith; first-passes = r .2; second-passes = e }
@@ -51,21 +51,21 @@ module _ (P : ℕ → Bool) where
           let r = ih (omega arith) in
           record { first = r .first; second = r .second; apart = r .apart; within = (let l = r .within in omega arith); first-passes = r .first-passes; second-passes = r .second-passes }
 
-  counted-one : (n i : ℕ) → i < n → P i ≡ true → 1 ≤ count n P
-  unfolding count
+  counted-one : (n i : ℕ) → i < n → P i ≡ true → 1 ≤ countBelow n P
+  unfolding countBelow
   counted-one zero i h e = absurd (omega arith)
   counted-one (suc n) i h e = go (top i n h) (counted-one n i)
     where
-      go : (i ≡ n) ⊎ (i < n) → (i < n → P i ≡ true → 1 ≤ count n P) → 1 ≤ count n P + one (P n)
+      go : (i ≡ n) ⊎ (i < n) → (i < n → P i ≡ true → 1 ≤ countBelow n P) → 1 ≤ countBelow n P + one (P n)
       go (inl q) ih = let w : one (P n) ≡ 1 = ap one (sym (ap P q) ∙ e) in omega arith
       go (inr l) ih = let r = ih l e in omega arith
 
-  pub counted-two : (n : ℕ) → Two n → 2 ≤ count n P
-  unfolding count
+  pub counted-two : (n : ℕ) → Two n → 2 ≤ countBelow n P
+  unfolding countBelow
   counted-two zero t = absurd (let h = t .within in omega arith)
   counted-two (suc n) t = go (top (t .second) n (t .within)) (counted-two n)
     where
-      go : (t .second ≡ n) ⊎ (t .second < n) → (Two n → 2 ≤ count n P) → 2 ≤ count n P + one (P n)
+      go : (t .second ≡ n) ⊎ (t .second < n) → (Two n → 2 ≤ countBelow n P) → 2 ≤ countBelow n P + one (P n)
       go (inl q) ih =
           let w : one (P n) ≡ 1 = ap one (sym (ap P q) ∙ t .second-passes) in
           let h = t .apart in

@@ -8,7 +8,7 @@ use mathlib.Core.List.{List}
 use lib.Dec.{eqb, leb}
 use lib.ListN.{length, getD}
 use borrow.Author.Tests.{eq-eqb, ne-eqb, lt-leb, le-leb}
-use Rattle.wordset.specs.Below.{one, count}
+use Rattle.wordset.specs.Below.{one, countBelow}
 use Rattle.wordset.proofs.BelowLaws.{all-intro, all-false, any-intro, any-none}
 use Rattle.snapshot.specs.declared.Answer.{Answer}
 use Rattle.snapshot.specs.declared.Answer.the-variants.{Nodes, Refused}
@@ -74,12 +74,12 @@ pub one-small : (r : ℕ) (b : Bool) → r ≡ one b → r ≤ 1
 one-small r true e = omega arith
 one-small r false e = omega arith
 
-pub count-next : (P : ℕ → Bool) (i c r : ℕ) → c ≡ count i P → r ≡ one (P i) → c + r ≡ count (i + 1) P
-unfolding count
-count-next P i c r e f = ap₂ (λ x y. x + y) e f ∙ ap (λ k. count k P) (sym (add-one i))
+pub count-next : (P : ℕ → Bool) (i c r : ℕ) → c ≡ countBelow i P → r ≡ one (P i) → c + r ≡ countBelow (i + 1) P
+unfolding countBelow
+count-next P i c r e f = ap₂ (λ x y. x + y) e f ∙ ap (λ k. countBelow k P) (sym (add-one i))
 
-pub count-none : (P : ℕ → Bool) → 0 ≡ count 0 P
-unfolding count
+pub count-none : (P : ℕ → Bool) → 0 ≡ countBelow 0 P
+unfolding countBelow
 count-none P = refl
 
 pub name-no : (kind : ℕ) (t : Bool) → (kind ≡ 2 → ⊥) → false ≡ (eqb kind 2 && t)

@@ -10,7 +10,7 @@ use lib.Dec.{eqb, ltb}
 use lib.ListN.{length, getD, set, drop, length-set, drop-of-length-le}
 use lib.Seq.{drop-cons}
 use borrow.Author.Tests.{ltb-true, ltb-false, eqb-true, eqb-false, eq-eqb, ne-eqb, lt-ltb, le-ltb}
-use Rattle.wordset.specs.Below.{all}
+use Rattle.wordset.specs.Below.{allBelow}
 use Rattle.wordset.proofs.BelowLaws.{all-intro, all-false}
 use Rattle.ctl.proofs.BoolLaws.{and-both}
 use Rattle.snapshot.specs.declared.text.State.{State}
@@ -110,7 +110,7 @@ pub starts-long : (line s : List ℕ) → starts line s ≡ true → length line
 unfolding starts
 starts-long line s e =
     elim (decLe (length s) (length line)) [
-      | yes h ↦ absurd (let k : getD s (length line) 0 ≡ 10 = eqb-true (getD s (length line) 0) 10 (and-both (all (length line) (λ i. eqb (getD s i 0) (getD line i 0))) (eqb (getD s (length line) 0) 10) e .1) in omega (arith, getD-past s (length line) h))
+      | yes h ↦ absurd (let k : getD s (length line) 0 ≡ 10 = eqb-true (getD s (length line) 0) 10 (and-both (allBelow (length line) (λ i. eqb (getD s i 0) (getD line i 0))) (eqb (getD s (length line) 0) 10) e .1) in omega (arith, getD-past s (length line) h))
       | no h ↦ omega arith
     ]
 

@@ -11,7 +11,7 @@ use lib.Dec.{eqb, ltb}
 use lib.ListN.{length, getD, take, drop, replicate, List·getD-append, List·getD-eq-default}
 use lib.Seq.{split-at, ext-getD, getD-take, length-take-le, getD-append-seam, drop-append-add}
 use Rattle.wordset.proofs.BelowLaws.{all-intro, all-elim}
-use Rattle.wordset.specs.Below.{all}
+use Rattle.wordset.specs.Below.{allBelow}
 use borrow.Author.Tests.{ltb-true, ltb-false, eqb-true, eq-eqb}
 use Rattle.ctl.specs.Snapshot.{Snapshot, entry, ofLines}
 use Rattle.ctl.proofs.BoolLaws.{decide, and-both}
@@ -29,7 +29,7 @@ use Rattle.snapshot.proofs.Folding.{fold-run}
 starts-split : (line s : List ℕ) → starts line s ≡ true → s ≡ line ++ (10 ∷ drop (length line + 1) s)
 unfolding starts
 starts-split line s e =
-    let p = and-both (all (length line) (λ i. eqb (getD s i 0) (getD line i 0))) (eqb (getD s (length line) 0) 10) e in
+    let p = and-both (allBelow (length line) (λ i. eqb (getD s i 0) (getD line i 0))) (eqb (getD s (length line) 0) 10) e in
     let h = starts-long line s e in
     let front : take (length line) s ≡ line = ext-getD 0 (take (length line) s) line (length-take-le (length line) s (omega arith))
     (λ i l. let l′ : i < length line = subst (λ n. i < n) (length-take-le (length line) s (omega arith)) l in

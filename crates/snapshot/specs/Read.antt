@@ -5,7 +5,7 @@ use mathlib.Core.Bool.{Bool, cond, _&&_}
 use mathlib.Core.List.{List, [], _∷_}
 use lib.Dec.{eqb, ltb, leb}
 use lib.ListN.{length, getD, set, drop}
-use Rattle.wordset.specs.Below.{all, any, count}
+use Rattle.wordset.specs.Below.{allBelow, anyBelow, countBelow}
 use Rattle.snapshot.specs.declared.text.State.{State}
 use Rattle.snapshot.specs.declared.Answer.{Answer}
 use Rattle.snapshot.specs.declared.Answer.the-variants.{Nodes, Refused}
@@ -73,7 +73,7 @@ run m st out (b ∷ s) = run m (byteStep m st b) (set out (st .node * 8 + st .sy
 
 -- the text begins with line 1 and a newline
 unfoldable pub starts : List ℕ → List ℕ → Bool
-starts line s = all (length line) (λ i. eqb (getD s i 0) (getD line i 0)) && eqb (getD s (length line) 0) 10
+starts line s = allBelow (length line) (λ i. eqb (getD s i 0) (getD line i 0)) && eqb (getD s (length line) 0) 10
 
 -- the reader's state and the store after line 1
 abbrev pub ran : List ℕ → ℕ → List ℕ → List ℕ → Ran
@@ -99,19 +99,19 @@ limit kind n = cond (eqb kind 3) n 1
 
 -- the entries of node i are within their limits
 unfoldable pub lineFits : List ℕ → ℕ → List ℕ → ℕ → Bool
-lineFits kinds n out i = all (length kinds) (λ k. leb (getD out (i * 8 + k) 0) (limit (getD kinds k 0) n))
+lineFits kinds n out i = allBelow (length kinds) (λ k. leb (getD out (i * 8 + k) 0) (limit (getD kinds k 0) n))
 
 -- those of all n nodes are
 unfoldable pub fits : List ℕ → ℕ → List ℕ → Bool
-fits kinds n out = all n (lineFits kinds n out)
+fits kinds n out = allBelow n (lineFits kinds n out)
 
 -- how many nodes symbol k is on
 abbrev pub onCount : List ℕ → ℕ → ℕ → ℕ
-onCount out n k = count n (λ i. eqb (getD out (i * 8 + k) 0) 1)
+onCount out n k = countBelow n (λ i. eqb (getD out (i * 8 + k) 0) 1)
 
 -- a name is on two nodes
 unfoldable pub twice : List ℕ → ℕ → List ℕ → Bool
-twice kinds n out = any (length kinds) (λ k. eqb (getD kinds k 0) 2 && leb 2 (onCount out n k))
+twice kinds n out = anyBelow (length kinds) (λ k. eqb (getD kinds k 0) 2 && leb 2 (onCount out n k))
 
 -- the answer on the node count, 0 for text that is no snapshot's, and the entries: the lowest number that applies
 unfoldable pub judged : List ℕ → ℕ → List ℕ → Answer

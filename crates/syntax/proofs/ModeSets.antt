@@ -10,7 +10,7 @@ use lib.ListN.{getD}
 use lib.Dec.{eqb, leb, ltb, lit<, eqb·zero-suc, eqb·suc-zero, eqb·suc-suc}
 use borrow.Author.Tests.{eqb-true, eqb-false, leb-true, lt-ltb, le-ltb, le-leb, lt-leb}
 use Rattle.token.specs.Token.{pick}
-use Rattle.ctl.specs.Lists.{any}
+use Rattle.ctl.specs.Lists.{anyOf}
 use Rattle.ctl.specs.Numbers.{hasBit}
 use Rattle.ctl.proofs.BoolLaws.{and-both}
 use Rattle.ctl.proofs.NumberLaws.{hasBit-half, window, window-only}
@@ -167,13 +167,13 @@ module _ (decl : List ℕ) where
 
   -- a mode of these is in the set
   abbrev hits : ℕ → List Mode → Bool
-  hits mask A = any (λ n. hasBit mask (modeNumber decl n)) A
+  hits mask A = anyOf (λ n. hasBit mask (modeNumber decl n)) A
 
-  hits-new : (A : List Mode) (mask j : ℕ) → hasBit mask j ≡ false → hits (mask + 2 ^ j) A ≡ hits mask A || any (λ n. eqb (modeNumber decl n) j) A
+  hits-new : (A : List Mode) (mask j : ℕ) → hasBit mask j ≡ false → hits (mask + 2 ^ j) A ≡ hits mask A || anyOf (λ n. eqb (modeNumber decl n) j) A
   hits-new [] mask j h = refl
   hits-new (m ∷ A) mask j h =
       rw (add-bit j mask (modeNumber decl m) h, hits-new A mask j h)
-      (swap (hasBit mask (modeNumber decl m)) (eqb (modeNumber decl m) j) (hits mask A) (any (λ n. eqb (modeNumber decl n) j) A))
+      (swap (hasBit mask (modeNumber decl m)) (eqb (modeNumber decl m) j) (hits mask A) (anyOf (λ n. eqb (modeNumber decl n) j) A))
     where
       swap : (a b c d : Bool) → a || b || (c || d) ≡ a || c || (b || d)
       swap true b c d = refl
@@ -186,12 +186,12 @@ module _ (decl : List ℕ) where
   low-from (m ∷ A) mask low h = go (step-is mask m) (λ k l g. low-from A k l g)
     where
       go : Step mask m → ((k l : ℕ) → l ≤ 9 → lowFrom k l A ≡ min l (lowest (someNoField decl A) (hits k A || twice decl A)))
-          → lowFrom (marked mask m .mask) (min low (marked mask m .low)) A ≡ min low (lowest (not (isField decl m) || someNoField decl A) (hasBit mask (modeNumber decl m) || hits mask A || (any (λ n. eqb (modeNumber decl n) (modeNumber decl m)) A || twice decl A)))
+          → lowFrom (marked mask m .mask) (min low (marked mask m .low)) A ≡ min low (lowest (not (isField decl m) || someNoField decl A) (hasBit mask (modeNumber decl m) || hits mask A || (anyOf (λ n. eqb (modeNumber decl n) (modeNumber decl m)) A || twice decl A)))
       go (no-field e f) r = rw (f, e) (r mask (min low 7) (omega arith) ∙ seven low (lowest (someNoField decl A) (hits mask A || twice decl A)) (lowest-least (someNoField decl A) (hits mask A || twice decl A)))
       go (new e b f) r =
           rw (f, e, b)
           (r (mask + 2 ^ modeNumber decl m) (min low 9) (omega arith)
-          ∙ (rw (hits-new A mask (modeNumber decl m) b, or-assoc (hits mask A) (any (λ n. eqb (modeNumber decl n) (modeNumber decl m)) A) (twice decl A)) (nine low _ h)))
+          ∙ (rw (hits-new A mask (modeNumber decl m) b, or-assoc (hits mask A) (anyOf (λ n. eqb (modeNumber decl n) (modeNumber decl m)) A) (twice decl A)) (nine low _ h)))
       go (again e b f) r = rw (f, e, b) (r mask (min low 8) (omega arith) ∙ eight low (someNoField decl A) (hits mask A || twice decl A))
 
   no-hits : (A : List Mode) → hits 0 A ≡ false

@@ -10,7 +10,7 @@ use lib.ListN.{getD}
 use lib.Dec.{eqb}
 use borrow.Author.Tests.{le-ltb, lt-ltb, le-leb, ne-eqb}
 use Rattle.ctl.specs.Formula.{Form, tru, fls, lit, nlit, and, or, ex, ax, eu, au, er, ar}
-use Rattle.ctl.specs.Lists.{_∈_, any, elem}
+use Rattle.ctl.specs.Lists.{_∈_, anyOf, elem}
 use Rattle.ctl.specs.Modes.{hasMode, modes, allModes}
 use Rattle.ctl.specs.Print.{print}
 use Rattle.ctl.specs.Positive.{signed}
@@ -96,7 +96,7 @@ module _ (at : ℕ → ℕ) (decl : List ℕ) where
       let r = h m (List·Memᴰ·head refl) in
       rw (r .declared) (all-fields ms (λ j k. h j (List·Memᴰ·tail k)))
 
-  none-below : (x a : ℕ) (ms : List ℕ) → x < a → Ascending a ms → ((m : ℕ) → m ∈ ms → Right m) → any (λ n. eqb (modeNumber decl n) x) (map (λ m. modeOf at m) ms) ≡ false
+  none-below : (x a : ℕ) (ms : List ℕ) → x < a → Ascending a ms → ((m : ℕ) → m ∈ ms → Right m) → anyOf (λ n. eqb (modeNumber decl n) x) (map (λ m. modeOf at m) ms) ≡ false
   none-below x a [] l s h = refl
   none-below x a (m ∷ ms) l s h =
       let r = h m (List·Memᴰ·head refl) in

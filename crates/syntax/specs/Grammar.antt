@@ -10,7 +10,7 @@ use Rattle.token.specs.declared.Tok.{Tok}
 use Rattle.token.specs.declared.Tok.the-variants.{Zero, One, Letter, Capital, Operator, Infix, Not, Open, Close, OpenBrace, CloseBrace, Comma}
 use Rattle.token.specs.Token.{pick}
 use Rattle.token.specs.Tokens.{tokens}
-use Rattle.ctl.specs.Lists.{any}
+use Rattle.ctl.specs.Lists.{anyOf}
 use Rattle.ctl.specs.Numbers.{number}
 use Rattle.ctl.specs.Modes.{allModes}
 use Rattle.syntax.specs.declared.Binary.{Binary}
@@ -108,7 +108,7 @@ module _ (decl : List ℕ) where
 
   -- the mode i is among these
   abbrev pub holdsMode : List Mode → ℕ → Bool
-  holdsMode A i = any (λ m. isField m && eqb i (modeNumber m)) A
+  holdsMode A i = anyOf (λ m. isField m && eqb i (modeNumber m)) A
 
   -- the set of modes that braces hold, as a number
   unfoldable pub modeSet : List Mode → ℕ
@@ -126,7 +126,7 @@ module _ (decl : List ℕ) where
 
   -- 7: some letter of the formula is no mark and no name, or some mode's letter is no field
   abbrev pub someNoField : List Mode → Bool
-  someNoField A = any (λ m. not (isField m)) A
+  someNoField A = anyOf (λ m. not (isField m)) A
 
   abbrev pub symbolWrong : Tree → Bool
   symbolWrong zero = false
@@ -140,7 +140,7 @@ module _ (decl : List ℕ) where
   -- 8: some braces are empty, or have a mode twice
   abbrev pub twice : List Mode → Bool
   twice [] = false
-  twice (m ∷ r) = any (λ n. eqb (modeNumber n) (modeNumber m)) r || twice r
+  twice (m ∷ r) = anyOf (λ n. eqb (modeNumber n) (modeNumber m)) r || twice r
 
   abbrev pub emptyOrTwice : List Mode → Bool
   emptyOrTwice [] = true

@@ -17,7 +17,7 @@ use Rattle.ctl.specs.Formula.{Form, tru, fls, lit, nlit, and, or, ex, ax, eu, a
 use Rattle.ctl.specs.Lists.{imp}
 use Rattle.ctl.specs.Modes.{hasMode, modes, single}
 use Rattle.wordset.proofs.BelowLaws.{same-or, all-elim, all-intro, any-ext, any-intro}
-use Rattle.wordset.specs.Below.{all, any}
+use Rattle.wordset.specs.Below.{allBelow, anyBelow}
 use Rattle.wordset.specs.Words.{member}
 use Rattle.closure.specs.Members.{formBy, forms}
 use Rattle.tableau.specs.Tables.{argAt, form, leftAt, rightAt, tagAt}
@@ -50,13 +50,13 @@ module _ (ms ln : List ℕ) where
   linked-one : (a m : ℕ) → m < 16 → a ≡ 2 ^ m → (t u : ℕ) → Linked ms ln a t u ≡ Lk ms ln m t u
   unfolding linked
   linked-one a m h e t u =
-      ap (λ b. L.any (λ k. Lk ms ln k t u) (modes b)) e ∙ ap (L.any (λ k. Lk ms ln k t u)) (modes-one {m = m} (below-in h)) ∙ or-false (Lk ms ln m t u)
+      ap (λ b. L.anyOf (λ k. Lk ms ln k t u) (modes b)) e ∙ ap (L.anyOf (λ k. Lk ms ln k t u)) (modes-one {m = m} (below-in h)) ∙ or-false (Lk ms ln m t u)
 
   one-of : (a b m : ℕ) → m < 16 → b ≡ 2 ^ m → oneOf a b ≡ hasMode a m
   unfolding oneOf
   one-of a b m h e =
-      ap (λ c. single c && L.all (hasMode a) (modes c)) e
-      ∙ ap₂ (λ s l. s && L.all (hasMode a) l) (true-T (single (2 ^ m)) (single-in {m = m} (below-in h))) (modes-one {m = m} (below-in h)) ∙ and-true (hasMode a m)
+      ap (λ c. single c && L.allOf (hasMode a) (modes c)) e
+      ∙ ap₂ (λ s l. s && L.allOf (hasMode a) l) (true-T (single (2 ^ m)) (single-in {m = m} (below-in h))) (modes-one {m = m} (below-in h)) ∙ and-true (hasMode a m)
 
   -- ---- members that ask for nothing
 
@@ -81,7 +81,7 @@ module _ {ms ln : List ℕ} {w : ℕ} {tw lw : List ℕ} (r : Ready ms ln w tw l
       → meets w rows (λ c. member us c && has w tw p c) t ≡ Next ms ln (listOf w us) a (form ms p) t
   unfolding meets E.next
   meets-next us rows t m p a q h k o l e =
-      ap (λ rs. any (w * 64) (λ j. has w rs t j && (member us j && has w tw p j))) q
+      ap (λ rs. anyBelow (w * 64) (λ j. has w rs t j && (member us j && has w tw p j))) q
       ∙ any-ext (λ j. has w (rowsOf lw m) t j && (member us j && has w tw p j)) (λ j. member us j && (trueAt ms ln p j && Linked ms ln a t j)) (w * 64)
       (λ j i. ap₂ _&&_ (r .rows .rows m k o t j h i ∙ sym (linked-one ms ln a m k e t j)) (ap (λ x. member us j && x) (truth-bit (r .truths) p l j i))
       ∙ and-comm (Linked ms ln a t j) (member us j && trueAt ms ln p j) ∙ and-assoc (member us j) (trueAt ms ln p j) (Linked ms ln a t j))
@@ -91,17 +91,17 @@ module _ {ms ln : List ℕ} {w : ℕ} {tw lw : List ℕ} (r : Ready ms ln w tw l
   abbrev pub StepsBy : List ℕ → ℕ → ℕ → ℕ → Bool
   StepsBy us a t m = hasMode a m && meets w (rowsOf lw m) (member us) t
 
-  pub steps-is : (us : List ℕ) (t a : ℕ) → t < w * 64 → ((m : ℕ) → hasMode a m ≡ true → asked ms m ≡ true) → any 16 (StepsBy us a t) ≡ L.any (Linked ms ln a t) (listOf w us)
+  pub steps-is : (us : List ℕ) (t a : ℕ) → t < w * 64 → ((m : ℕ) → hasMode a m ≡ true → asked ms m ≡ true) → anyBelow 16 (StepsBy us a t) ≡ L.anyOf (Linked ms ln a t) (listOf w us)
   unfolding linked meets
   steps-is us t a h f =
       both-ways _ _
       (λ s. (let x = some-below 16 (StepsBy us a t) s in
       let o = and-0 (hasMode a (x .0)) _ (x .2) in
       let y = some-below (w * 64) (λ j. has w (rowsOf lw (x .0)) t j && member us j) (and-1 (hasMode a (x .0)) _ (x .2)) in
-      any-in (λ u. L.any (λ m. Lk ms ln m t u) (modes a)) (list-in w us (y .1) (and-1 (has w (rowsOf lw (x .0)) t (y .0)) (member us (y .0)) (y .2)))
+      any-in (λ u. L.anyOf (λ m. Lk ms ln m t u) (modes a)) (list-in w us (y .1) (and-1 (has w (rowsOf lw (x .0)) t (y .0)) (member us (y .0)) (y .2)))
       (any-in (λ m. Lk ms ln m t (y .0)) (modes-has a (x .0) (x .1) o)
       (T-cast (r .rows .rows (x .0) (x .1) (f (x .0) (true-T _ o)) t (y .0) h (y .1)) (and-0 (has w (rowsOf lw (x .0)) t (y .0)) (member us (y .0)) (y .2))))))
-      (λ s. (let y = any-out (λ u. L.any (λ m. Lk ms ln m t u) (modes a)) (listOf w us) s in
+      (λ s. (let y = any-out (λ u. L.anyOf (λ m. Lk ms ln m t u) (modes a)) (listOf w us) s in
       let x = any-out (λ m. Lk ms ln m t (y .0)) (modes a) (y .2) in
       let i = modes-in a (x .1) in
       let k = list-out w us (y .1) in
@@ -129,7 +129,7 @@ module _ {ms ln : List ℕ} {w : ℕ} {tw lw : List ℕ} (r : Ready ms ln w tw l
       -- not over one mode
       pub follow-wide : (single (argAt ms i) ≡ true → ⊥) → true ≡ Follows ms ln U a t (form ms i)
       unfolding oneOf
-      follow-wide f = sym (follow-ex ∙ ap (λ x. imp (x && L.all (hasMode a) (modes (argAt ms i))) (imp (trueAt ms ln i t) here)) (false-of (single (argAt ms i)) f))
+      follow-wide f = sym (follow-ex ∙ ap (λ x. imp (x && L.allOf (hasMode a) (modes (argAt ms i))) (imp (trueAt ms ln i t) here)) (false-of (single (argAt ms i)) f))
 
       module _ (b m : ℕ) (l : m < 16) (eb : b ≡ argAt ms i) (q : b ≡ 2 ^ m) where
         follow-one : Follows ms ln U a t (form ms i) ≡ imp (hasMode a m) (imp (trueAt ms ln i t) here)
@@ -144,7 +144,7 @@ module _ {ms ln : List ℕ} {w : ℕ} {tw lw : List ℕ} (r : Ready ms ln w tw l
             ∙ sym (follow-one ∙ ap (λ x. imp x (imp (trueAt ms ln i t) here)) f ∙ to-or (trueAt ms ln i t) here)
 
   -- every EX of the closure follows if those of the lean do
-  pub all-lean : (U : List ℕ) (a t : ℕ) → all (length ln) (λ k. Follows ms ln U a t (form ms (getD ln k 0))) ≡ L.all (Follows ms ln U a t) (forms ms)
+  pub all-lean : (U : List ℕ) (a t : ℕ) → allBelow (length ln) (λ k. Follows ms ln U a t (form ms (getD ln k 0))) ≡ L.allOf (Follows ms ln U a t) (forms ms)
   all-lean U a t =
       both-ways _ _
       (λ s. T-cast (all-forms ms F) (T-true _ (all-intro (λ i. F (form ms i)) (length ms) (λ i h. one i h s (same-or (tagAt ms i) 6) (decide (single (argAt ms i)))))))
@@ -154,7 +154,7 @@ module _ {ms ln : List ℕ} {w : ℕ} {tw lw : List ℕ} (r : Ready ms ln w tw l
       F : Form → Bool
       F = Follows ms ln U a t
 
-      one : (i : ℕ) → i < length ms → T (all (length ln) (λ k. Follows ms ln U a t (form ms (getD ln k 0)))) → (tagAt ms i ≡ 6) ⊎ (tagAt ms i ≡ 6 → ⊥)
+      one : (i : ℕ) → i < length ms → T (allBelow (length ln) (λ k. Follows ms ln U a t (form ms (getD ln k 0)))) → (tagAt ms i ≡ 6) ⊎ (tagAt ms i ≡ 6 → ⊥)
           → (single (argAt ms i) ≡ true) ⊎ (single (argAt ms i) ≡ false) → Follows ms ln U a t (form ms i) ≡ true
       one i h s (inr f) c = sym (follow-none U a t i h f)
       one i h s (inl e) (inr f) = sym (follow-wide U a t i h e (λ q. true≢false (sym q ∙ f)))
@@ -168,10 +168,10 @@ module _ {ms ln : List ℕ} {w : ℕ} {tw lw : List ℕ} (r : Ready ms ln w tw l
     pass-tag : (k : ℕ) → tagAt ms i ≡ k → passes ms ln U t (form ms i) ≡ passes ms ln U t (formBy k (argAt ms i) (form ms (leftAt ms i)) (form ms (rightAt ms i)))
     pass-tag k e = ap (passes ms ln U t) (form-tag (r .table) i h k e)
 
-    pub pass-eu : (b : ℕ) (s : Bool) → tagAt ms i ≡ 8 → b ≡ argAt ms i → s ≡ L.any (Linked ms ln b t) U → s ≡ passes ms ln U t (form ms i)
+    pub pass-eu : (b : ℕ) (s : Bool) → tagAt ms i ≡ 8 → b ≡ argAt ms i → s ≡ L.anyOf (Linked ms ln b t) U → s ≡ passes ms ln U t (form ms i)
     unfolding passes
-    pass-eu b s e eb d = d ∙ ap (λ x. L.any (Linked ms ln x t) U) eb ∙ sym (pass-tag 8 e)
+    pass-eu b s e eb d = d ∙ ap (λ x. L.anyOf (Linked ms ln x t) U) eb ∙ sym (pass-tag 8 e)
 
-    pub pass-au : (b : ℕ) (s : Bool) → tagAt ms i ≡ 9 → b ≡ argAt ms i → s ≡ L.all (Follows ms ln U b t) (forms ms) → s ≡ passes ms ln U t (form ms i)
+    pub pass-au : (b : ℕ) (s : Bool) → tagAt ms i ≡ 9 → b ≡ argAt ms i → s ≡ L.allOf (Follows ms ln U b t) (forms ms) → s ≡ passes ms ln U t (form ms i)
     unfolding passes
-    pass-au b s e eb d = d ∙ ap (λ x. L.all (Follows ms ln U x t) (forms ms)) eb ∙ sym (pass-tag 9 e)
+    pass-au b s e eb d = d ∙ ap (λ x. L.allOf (Follows ms ln U x t) (forms ms)) eb ∙ sym (pass-tag 9 e)

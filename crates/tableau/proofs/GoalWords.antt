@@ -7,7 +7,7 @@ use Prim.Native.Nat.{ℕ, zero, suc, _+_, _*_, _≤_, _<_}
 use native.Mathlib.Omega.{arith}
 use Rattle.ctl.specs.Lists.{keep, put, countFrom, below}
 use Rattle.wordset.proofs.BelowLaws.{same-or, any-false, least-holds, least-below}
-use Rattle.wordset.specs.Below.{any, least}
+use Rattle.wordset.specs.Below.{anyBelow, least}
 use Rattle.wordset.specs.Words.{member}
 use Rattle.tableau.specs.declared.goal.Found.the-variants.{At, Nothing}
 use Rattle.tableau.specs.Families.{listOf}
@@ -49,6 +49,6 @@ module _ (w : ℕ) (ws : List ℕ) (Q : ℕ → Bool) where
       sym (ap firstOf (keep-twice (member ws) Q (below (w * 64)))
       ∙ first-from both 0 (w * 64) t (omega arith) (omega arith) (ap both e ∙ least-holds (w * 64) both h) (λ k i. least-below (w * 64) both k (omega arith)))
 
-  pub first-none : false ≡ any (w * 64) both → Nothing ≡ firstOf (keep Q (listOf w ws))
+  pub first-none : false ≡ anyBelow (w * 64) both → Nothing ≡ firstOf (keep Q (listOf w ws))
   unfolding listOf
   first-none e = sym (ap firstOf (keep-twice (member ws) Q (below (w * 64))) ∙ none-from both 0 (w * 64) (λ k l. any-false both (w * 64) (sym e) k (omega arith)))

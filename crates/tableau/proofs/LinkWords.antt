@@ -16,7 +16,7 @@ use Rattle.ctl.specs.Lists.{imp}
 use Rattle.ctl.specs.Modes.{hasMode}
 use Rattle.wordset.proofs.BitLaws.{shl-one}
 use Rattle.wordset.proofs.BelowLaws.{count-le}
-use Rattle.wordset.specs.Below.{all}
+use Rattle.wordset.specs.Below.{allBelow}
 use Rattle.closure.specs.Members.{forms}
 use Rattle.tableau.specs.Tables.{Table, argAt, form, leanForms, leftAt, rightAt, tagAt}
 use Rattle.tableau.specs.Blocks.{has}
@@ -216,7 +216,7 @@ module _ {ms : List ℕ} (ln : List ℕ) (t : Table ms) (i : ℕ) (h : i < lengt
 
 -- ---- all members
 
-pub all-rules : (ms ln : List ℕ) (f : ℕ) (back : Bool) (t u : ℕ) → all (length ms) (λ i. ruleBy ms ln f back t u i) ≡ linkBack ms ln f back t u
+pub all-rules : (ms ln : List ℕ) (f : ℕ) (back : Bool) (t u : ℕ) → allBelow (length ms) (λ i. ruleBy ms ln f back t u i) ≡ linkBack ms ln f back t u
 unfolding ruleBy linkBack link
 all-rules ms ln f true t u = all-forms ms (linkRule (leanForms ms ln) f u t)
 all-rules ms ln f false t u = all-forms ms (linkRule (leanForms ms ln) f t u)
@@ -224,25 +224,25 @@ all-rules ms ln f false t u = all-forms ms (linkRule (leanForms ms ln) f t u)
 -- ---- the loop over the members: of full rows, those links are left that the first i members allow
 
 module _ (ms ln : List ℕ) (f : ℕ) (back : Bool) {w : ℕ} {d : List ℕ} where
-  pub members-start : Narrowing w (length ms) d d (λ t u. all 0 (λ j. ruleBy ms ln f back t u j)) 0
-  unfolding all
+  pub members-start : Narrowing w (length ms) d d (λ t u. allBelow 0 (λ j. ruleBy ms ln f back t u j)) 0
+  unfolding allBelow
   members-start = record { within = omega arith; long = refl; is = narrowed-none (λ t u h k. refl) }
 
-  pub members-on : {rows rows′ : List ℕ} {i : ℕ} → Narrowing w (length ms) d rows (λ t u. all i (λ j. ruleBy ms ln f back t u j)) i → i < length ms → length rows′ ≡ length rows
-      → Narrowed w rows rows′ (λ t u. ruleBy ms ln f back t u i) → Narrowing w (length ms) d rows′ (λ t u. all (i + 1) (λ j. ruleBy ms ln f back t u j)) (i + 1)
-  unfolding all
+  pub members-on : {rows rows′ : List ℕ} {i : ℕ} → Narrowing w (length ms) d rows (λ t u. allBelow i (λ j. ruleBy ms ln f back t u j)) i → i < length ms → length rows′ ≡ length rows
+      → Narrowed w rows rows′ (λ t u. ruleBy ms ln f back t u i) → Narrowing w (length ms) d rows′ (λ t u. allBelow (i + 1) (λ j. ruleBy ms ln f back t u j)) (i + 1)
+  unfolding allBelow
   members-on {rows} {rows′} {i} s h l n = record {
     within = omega arith;
     long = l ∙ s .long;
-    is = narrowed-on (s .is) n (λ t u p q. ap (λ m. all m (λ j. ruleBy ms ln f back t u j)) (sym (add-one i)));
+    is = narrowed-on (s .is) n (λ t u p q. ap (λ m. allBelow m (λ j. ruleBy ms ln f back t u j)) (sym (add-one i)));
   }
 
-  pub members-end : {rows : List ℕ} {i : ℕ} → Narrowing w (length ms) d rows (λ t u. all i (λ j. ruleBy ms ln f back t u j)) i → length ms ≤ i
+  pub members-end : {rows : List ℕ} {i : ℕ} → Narrowing w (length ms) d rows (λ t u. allBelow i (λ j. ruleBy ms ln f back t u j)) i → length ms ≤ i
       → ((q : ℕ) → q < w * 64 * w → getD d q 0 ≡ 18446744073709551615) → (t u : ℕ) → t < w * 64 → u < w * 64 → has w rows t u ≡ linkBack ms ln f back t u
   members-end {rows} {i} s h full t u p q =
       let k = s .within in
       let e : i ≡ length ms = omega arith in
-      s .is .is t u p q ∙ ap₂ _&&_ (full-has w d full t u p q) (ap (λ m. all m (λ j. ruleBy ms ln f back t u j)) e ∙ all-rules ms ln f back t u)
+      s .is .is t u p q ∙ ap₂ _&&_ (full-has w d full t u p q) (ap (λ m. allBelow m (λ j. ruleBy ms ln f back t u j)) e ∙ all-rules ms ln f back t u)
 
 -- ---- rows
 

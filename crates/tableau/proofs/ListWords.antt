@@ -13,7 +13,7 @@ use Rattle.ctl.proofs.BoolLaws.{T-cast, T-cast⁻, T-true, and-0, and-1, and-in
 use Rattle.ctl.proofs.ListLaws.{any-in, any-out, below-in, below-out, elem-in, elem-out, keep-in, keep-out, Ascending, ascending-count, ascending-keep, ascending-same, keep-length}
 use Rattle.ctl.specs.Lists.{_∈_, below, elem, keep, countFrom, put}
 use Rattle.wordset.proofs.BelowLaws.{any-intro, least-holds, least-lt, count-ext, count-front}
-use Rattle.wordset.specs.Below.{any, all, least, count, one}
+use Rattle.wordset.specs.Below.{anyBelow, allBelow, least, countBelow, one}
 use Rattle.wordset.specs.Words.{member, packed, minus, join}
 use Rattle.wordset.proofs.WordLaws.{member-packed}
 use Rattle.tableau.specs.Blocks.{has}
@@ -21,20 +21,20 @@ use Rattle.tableau.specs.Families.{listOf}
 
 -- ---- tests of the numbers below a bound
 
-pub some-below : (n : ℕ) (P : ℕ → Bool) → T (any n P) → (j : ℕ) × (j < n) × T (P j)
+pub some-below : (n : ℕ) (P : ℕ → Bool) → T (anyBelow n P) → (j : ℕ) × (j < n) × T (P j)
 some-below n P h = let l = least-lt n P (true-T _ h) in (least n P, l, T-true _ (least-holds n P l))
 
-pub some-in : (n : ℕ) (P : ℕ → Bool) (j : ℕ) → j < n → T (P j) → T (any n P)
+pub some-in : (n : ℕ) (P : ℕ → Bool) (j : ℕ) → j < n → T (P j) → T (anyBelow n P)
 some-in n P j h t = T-true _ (any-intro P n j h (true-T _ t))
 
-pub all-front : (n : ℕ) (Q : ℕ → Bool) → all (suc n) Q ≡ (Q 0 && all n (λ i. Q (suc i)))
-unfolding all
+pub all-front : (n : ℕ) (Q : ℕ → Bool) → allBelow (suc n) Q ≡ (Q 0 && allBelow n (λ i. Q (suc i)))
+unfolding allBelow
 all-front zero Q = sym (and-true (Q 0))
-all-front (suc n) Q = ap (λ b. b && Q (suc n)) (all-front n Q) ∙ and-assoc (Q 0) (all n (λ i. Q (suc i))) (Q (suc n))
+all-front (suc n) Q = ap (λ b. b && Q (suc n)) (all-front n Q) ∙ and-assoc (Q 0) (allBelow n (λ i. Q (suc i))) (Q (suc n))
 
 -- each place of a list
-pub all-list : {A B : Type 0} (P : B → Bool) (f : A → B) (d : A) (l : List A) → all (length l) (λ i. P (f (getD l i d))) ≡ L.all P (map f l)
-all-list P f d [] = unfold all in refl
+pub all-list : {A B : Type 0} (P : B → Bool) (f : A → B) (d : A) (l : List A) → allBelow (length l) (λ i. P (f (getD l i d))) ≡ L.allOf P (map f l)
+all-list P f d [] = unfold allBelow in refl
 all-list P f d (x ∷ l) = all-front (length l) (λ i. P (f (getD (x ∷ l) i d))) ∙ ap (λ b. P (f x) && b) (all-list P f d l)
 
 -- ---- what a store holds into which a set was packed
@@ -64,7 +64,7 @@ list-out w ws m = let r = keep-out (member ws) (below (w * 64)) m in (below-out 
 pub list-elem : (w : ℕ) (ws : List ℕ) (t : ℕ) → t < w * 64 → elem t (listOf w ws) ≡ member ws t
 list-elem w ws t h = both-ways _ _ (λ m. list-out w ws (elem-out t (listOf w ws) m) .1) (λ m. elem-in (list-in w ws h m))
 
-pub any-listed : (w : ℕ) (ws : List ℕ) (P : ℕ → Bool) → any (w * 64) (λ j. member ws j && P j) ≡ L.any P (listOf w ws)
+pub any-listed : (w : ℕ) (ws : List ℕ) (P : ℕ → Bool) → anyBelow (w * 64) (λ j. member ws j && P j) ≡ L.anyOf P (listOf w ws)
 any-listed w ws P =
     both-ways _ _
     (λ h. (let r = some-below (w * 64) (λ j. member ws j && P j) h in any-in P (list-in w ws (r .1) (and-0 (member ws (r .0)) (P (r .0)) (r .2))) (and-1 (member ws (r .0)) (P (r .0)) (r .2))))
@@ -94,8 +94,8 @@ list-packed w d x fam h a b e =
 
 -- ---- how many
 
-count-keep : (P : ℕ → Bool) (a n : ℕ) → count n (λ j. P (a + j)) ≡ length (keep P (countFrom a n))
-unfolding count
+count-keep : (P : ℕ → Bool) (a n : ℕ) → countBelow n (λ j. P (a + j)) ≡ length (keep P (countFrom a n))
+unfolding countBelow
 count-keep P a zero = refl
 count-keep P a (suc n) =
     count-front (λ j. P (a + j)) n
@@ -106,6 +106,6 @@ count-keep P a (suc n) =
     go true l = omega arith
     go false l = omega arith
 
-pub count-list : (w : ℕ) (ws : List ℕ) → count (w * 64) (member ws) ≡ length (listOf w ws)
+pub count-list : (w : ℕ) (ws : List ℕ) → countBelow (w * 64) (member ws) ≡ length (listOf w ws)
 unfolding listOf
 count-list w ws = count-ext (member ws) (λ j. member ws (0 + j)) (w * 64) (λ j h. ap (member ws) (omega arith)) ∙ count-keep (member ws) 0 (w * 64)

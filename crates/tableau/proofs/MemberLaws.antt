@@ -9,7 +9,7 @@ use lib.Seq.{getD-append-seam}
 use Rattle.ctl.specs.Lists as L
 use Rattle.ctl.specs.Formula.{Form, tru}
 use Rattle.ctl.specs.Equality.{tag}
-use Rattle.wordset.specs.Below.{all}
+use Rattle.wordset.specs.Below.{allBelow}
 use Rattle.closure.specs.Members.{argW, formBy, formOf, forms, formsFrom, leftW, rightW, tagW}
 use Rattle.tableau.specs.Tables.{Table, argAt, form, leftAt, rightAt, tagAt}
 use Rattle.tableau.proofs.ListWords.{all-list}
@@ -139,6 +139,6 @@ map-self : (l : List Form) → map (λ p. p) l ≡ l
 map-self [] = refl
 map-self (p ∷ l) = ap (λ k. p ∷ k) (map-self l)
 
-pub all-forms : (ms : List ℕ) (P : Form → Bool) → all (length ms) (λ i. P (form ms i)) ≡ L.all P (forms ms)
+pub all-forms : (ms : List ℕ) (P : Form → Bool) → allBelow (length ms) (λ i. P (form ms i)) ≡ L.allOf P (forms ms)
 unfolding form
-all-forms ms P = ap (λ n. all n (λ i. P (getD (forms ms) i tru))) (sym (forms-length ms)) ∙ all-list P (λ p. p) tru (forms ms) ∙ ap (L.all P) (map-self (forms ms))
+all-forms ms P = ap (λ n. allBelow n (λ i. P (getD (forms ms) i tru))) (sym (forms-length ms)) ∙ all-list P (λ p. p) tru (forms ms) ∙ ap (L.allOf P) (map-self (forms ms))

@@ -14,7 +14,7 @@ use Rattle.ctl.specs.Modes.{single, hasMode, modes}
 use Rattle.ctl.proofs.ListLaws.{all-in, all-out, any-in, any-out, below-in}
 use Rattle.wordset.proofs.BelowLaws.{least-is, any-intro}
 use Rattle.wordset.proofs.BitLaws.{bit-pow, trailing-least}
-use Rattle.wordset.specs.Below.{any}
+use Rattle.wordset.specs.Below.{anyBelow}
 use Rattle.wordset.specs.Word.{bit}
 use Rattle.tableau.proofs.ListWords.{some-below}
 
@@ -55,7 +55,7 @@ mode-single {r} {a} k h = ap single (mode-one k h) ∙ true-T (single (2 ^ r)) (
 
 -- ---- several modes
 
-pub some-any : (f : ℕ → Bool) (a : ℕ) → any 16 (λ m. hasMode a m && f m) ≡ L.any f (modes a)
+pub some-any : (f : ℕ → Bool) (a : ℕ) → anyBelow 16 (λ m. hasMode a m && f m) ≡ L.anyOf f (modes a)
 some-any f a =
     both-ways _ _
     (λ h. (let w = some-below 16 (λ m. hasMode a m && f m) h in
@@ -63,11 +63,11 @@ some-any f a =
     (λ h. (let w = any-out f (modes a) h in let k = modes-in a (w .1) in
     T-true _ (any-intro (λ m. hasMode a m && f m) 16 (w .0) (mode-lt (k .0)) (true-T _ (and-in (hasMode a (w .0)) (f (w .0)) (k .1) (w .2))))))
 
-pub every-all : (f : ℕ → Bool) (a : ℕ) → not (any 16 (λ m. hasMode a m && not (f m))) ≡ L.all f (modes a)
+pub every-all : (f : ℕ → Bool) (a : ℕ) → not (anyBelow 16 (λ m. hasMode a m && not (f m))) ≡ L.allOf f (modes a)
 every-all f a =
     both-ways _ _
-    (λ h. all-in f (modes a) (λ m i. not-absurd (f m) (λ n. (let k = modes-in a i in T-not (any 16 (λ m. hasMode a m && not (f m))) h
+    (λ h. all-in f (modes a) (λ m i. not-absurd (f m) (λ n. (let k = modes-in a i in T-not (anyBelow 16 (λ m. hasMode a m && not (f m))) h
     (T-true _ (any-intro (λ m. hasMode a m && not (f m)) 16 m (mode-lt (k .0)) (true-T _ (and-in (hasMode a m) (not (f m)) (k .1) n))))))))
-    (λ h. not-T (any 16 (λ m. hasMode a m && not (f m))) (λ g. (let w = some-below 16 (λ m. hasMode a m && not (f m)) g in
+    (λ h. not-T (anyBelow 16 (λ m. hasMode a m && not (f m))) (λ g. (let w = some-below 16 (λ m. hasMode a m && not (f m)) g in
     T-not (f (w .0)) (and-1 (hasMode a (w .0)) (not (f (w .0))) (w .2))
     (all-out f h (modes-has a (w .0) (w .1) (and-0 (hasMode a (w .0)) (not (f (w .0))) (w .2)))))))

@@ -14,24 +14,24 @@ use Rattle.ctl.proofs.BoolLaws.{and-both}
 use Rattle.wordset.proofs.BitLaws.{digit-low}
 use Rattle.wordset.proofs.BelowLaws.{all-elim}
 use Rattle.wordset.proofs.CompareLaws.{beq-true}
-use Rattle.wordset.specs.Below.{all}
+use Rattle.wordset.specs.Below.{allBelow}
 use Rattle.wordset.specs.Word.{bit}
 use Rattle.wordset.specs.Answers.{Answers}
 use Rattle.tableau.proofs.BlockLaws.{word-full, word-none}
 
 -- words of a list that a computed test finds to answer P i on the first 64 numbers
-pub computed : (P : ℕ → ℕ → Bool) (l : List ℕ) (n : ℕ) → all n (λ i. ltb (getD l i 0) (2 ^ 64) && all 64 (λ b. Bool·beq (P i b) (bit (getD l i 0) b))) ≡ true
+pub computed : (P : ℕ → ℕ → Bool) (l : List ℕ) (n : ℕ) → allBelow n (λ i. ltb (getD l i 0) (2 ^ 64) && allBelow 64 (λ b. Bool·beq (P i b) (bit (getD l i 0) b))) ≡ true
     → (i : ℕ) → i < n → (getD l i 0 < 2 ^ 64) × ((b : ℕ) → b < 64 → P i b ≡ bit (getD l i 0) b)
 computed P l n e i h =
-    let c = and-both (ltb (getD l i 0) (2 ^ 64)) _ (all-elim (λ i. ltb (getD l i 0) (2 ^ 64) && all 64 (λ b. Bool·beq (P i b) (bit (getD l i 0) b))) n e i h) in
+    let c = and-both (ltb (getD l i 0) (2 ^ 64)) _ (all-elim (λ i. ltb (getD l i 0) (2 ^ 64) && allBelow 64 (λ b. Bool·beq (P i b) (bit (getD l i 0) b))) n e i h) in
     (ltb-true _ _ (c .0), λ b k. beq-true _ _ (all-elim (λ b. Bool·beq (P i b) (bit (getD l i 0) b)) 64 (c .1) b k))
 
 -- the words of the places below 6, each the same for all words
 abbrev low-places : List ℕ
 low-places = 12297829382473034410 ∷ 14757395258967641292 ∷ 17361641481138401520 ∷ 18374966859414961920 ∷ 18446462603027742720 ∷ 18446744069414584320 ∷ []
 
-checked : all 6 (λ i. ltb (getD low-places i 0) (2 ^ 64) && all 64 (λ b. Bool·beq (inType b i) (bit (getD low-places i 0) b))) ≡ true
-unfolding all bit
+checked : allBelow 6 (λ i. ltb (getD low-places i 0) (2 ^ 64) && allBelow 64 (λ b. Bool·beq (inType b i) (bit (getD low-places i 0) b))) ≡ true
+unfolding allBelow bit
 checked = refl
 
 pub low-word : (i k : ℕ) → i < 6 → Answers (λ t. inType t i) k (getD low-places i 0)

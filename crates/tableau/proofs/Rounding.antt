@@ -16,7 +16,7 @@ use Rattle.ctl.specs.Formula.{Form, tru, fls, lit, nlit, and, or, ex, ax, eu, a
 use Rattle.ctl.specs.Lists.{elem, imp}
 use Rattle.ctl.specs.Modes.{single}
 use Rattle.wordset.proofs.PackLaws.{packed-ext, packed-held, packed-self, packed-twice}
-use Rattle.wordset.specs.Below.{all}
+use Rattle.wordset.specs.Below.{allBelow}
 use Rattle.wordset.specs.Words.{member, packed}
 use Rattle.closure.specs.Members.{formBy, forms}
 use Rattle.tableau.specs.Tables.{argAt, form, leftAt, rightAt, tagAt}
@@ -134,7 +134,7 @@ module _ {ms ln : List ℕ} {w : ℕ} {tw lw : List ℕ} (r : Ready ms ln w tw l
 
 -- t is in src, and does not lack what one of the first i members asks for
 abbrev pub lasts : List ℕ → List ℕ → ℕ → List ℕ → ℕ → ℕ → Bool
-lasts ms ln w src i t = member src t && all i (λ j. not (lacks ms ln (listOf w src) t (form ms j)))
+lasts ms ln w src i t = member src t && allBelow i (λ j. not (lacks ms ln (listOf w src) t (form ms j)))
 
 pub record Rounded (ms ln : List ℕ) (w : ℕ) (src d₀ u₀ todo₀ v₀ dst u todo v : List ℕ) (i : ℕ) : Type 0 where
   pub within : i ≤ length ms
@@ -147,7 +147,7 @@ pub record Rounded (ms ln : List ℕ) (w : ℕ) (src d₀ u₀ todo₀ v₀ dst 
 
 module _ {ms ln : List ℕ} {w : ℕ} {src : List ℕ} where
   pub round-start : (d : List ℕ) {d₀ u₀ todo₀ v₀ : List ℕ} → w ≤ length d → length d₀ ≡ length d → d₀ ≡ packed w (member src) d → Rounded ms ln w src d₀ u₀ todo₀ v₀ d₀ u₀ todo₀ v₀ 0
-  unfolding all
+  unfolding allBelow
   round-start d {d₀} h n e = record {
     within = omega arith;
     room = omega arith;
@@ -167,7 +167,7 @@ module _ {ms ln : List ℕ} {w : ℕ} {src : List ℕ} where
 
     pub round-on : (dst′ u′ todo′ v′ : List ℕ) → i < length ms → length dst′ ≡ length dst → length u′ ≡ length u → length todo′ ≡ length todo → length v′ ≡ length v
         → dst′ ≡ packed w (λ t. member dst t && not (lacks ms ln (listOf w src) t (form ms i))) dst → Rounded ms ln w src d₀ u₀ todo₀ v₀ dst′ u′ todo′ v′ (i + 1)
-    unfolding all
+    unfolding allBelow
     round-on dst′ u′ todo′ v′ h ld lu lt lv q = record {
       within = omega arith;
       room = s .room;
@@ -184,15 +184,15 @@ module _ {ms ln : List ℕ} {w : ℕ} {src : List ℕ} where
         last : ℕ → Bool
         last t = member dst t && not (lacks ms ln (listOf w src) t (form ms i))
 
-none-all : (f : Form → Bool) (l : List Form) → L.all (λ p. not (f p)) l ≡ not (L.any f l)
+none-all : (f : Form → Bool) (l : List Form) → L.allOf (λ p. not (f p)) l ≡ not (L.anyOf f l)
 none-all f [] = refl
-none-all f (p ∷ l) = ap (λ b. not (f p) && b) (none-all f l) ∙ sym (not-or (f p) (L.any f l))
+none-all f (p ∷ l) = ap (λ b. not (f p) && b) (none-all f l) ∙ sym (not-or (f p) (L.anyOf f l))
 
 -- ctl's test of a type against a family
 abbrev pub Fails : List ℕ → List ℕ → List ℕ → ℕ → Bool
 Fails ms ln = E.fails (forms ms) (Tr ms ln) (Lk ms ln)
 
-unfailing : (ms ln fam : List ℕ) (t : ℕ) → all (length ms) (λ j. not (lacks ms ln fam t (form ms j))) ≡ not (Fails ms ln fam t)
+unfailing : (ms ln fam : List ℕ) (t : ℕ) → allBelow (length ms) (λ j. not (lacks ms ln fam t (form ms j))) ≡ not (Fails ms ln fam t)
 unfolding lacks E.fails
 unfailing ms ln fam t = all-forms ms (λ p. not (lacks ms ln fam t p)) ∙ none-all (lacks ms ln fam t) (forms ms)
 
@@ -204,5 +204,5 @@ module _ {ms ln : List ℕ} {w : ℕ} {src : List ℕ} where
       let q : i ≡ length ms = (let a = s .within in omega arith) in
       packed-twice (member src) (lasts ms ln w src i) d d₀ dst w k e (s .is)
       ∙ packed-ext (lasts ms ln w src i) (λ t. elem t (Round ms ln (listOf w src))) d w
-      (λ t l. ap₂ _&&_ (sym (list-elem w src t l)) (ap (λ n. all n (λ j. not (lacks ms ln (listOf w src) t (form ms j)))) q ∙ unfailing ms ln (listOf w src) t)
+      (λ t l. ap₂ _&&_ (sym (list-elem w src t l)) (ap (λ n. allBelow n (λ j. not (lacks ms ln (listOf w src) t (form ms j)))) q ∙ unfailing ms ln (listOf w src) t)
       ∙ sym (round-elem (forms ms) (Tr ms ln) (Lk ms ln) (listOf w src) t))

@@ -12,7 +12,7 @@ use lib.ListN.{length, getD, set, take, drop, length-append, length-drop, length
 use lib.Seq.{drop-at, getD-drop, getD-set-other, getD-set-same, getD-take, length-take-le}
 use borrow.Rule.Slice.PartMut.{putMid}
 use Rattle.wordset.proofs.BelowLaws.{count-add, top}
-use Rattle.wordset.specs.Below.{count, one}
+use Rattle.wordset.specs.Below.{countBelow, one}
 use Rattle.wordset.specs.Word.{bit}
 use Rattle.tableau.specs.Blocks.{has}
 use Rattle.tableau.specs.Links.{Lk, Rows, asked, linkRoom, rowsOf}
@@ -56,23 +56,23 @@ rows-same w o a b f t u h k =
 pub record Listed (ms ln : List ℕ) (w : ℕ) (d lw : List ℕ) (at m : ℕ) : Type 0 where
   pub within : m ≤ 16
   pub long : length lw ≡ length d
-  pub place : at ≡ 16 + count m (asked ms) * (w * 64 * w)
+  pub place : at ≡ 16 + countBelow m (asked ms) * (w * 64 * w)
   pub inside : (k : ℕ) → k < m → asked ms k ≡ true → (16 ≤ getD lw k 0) × (getD lw k 0 + w * 64 * w ≤ at)
   pub rows : (k : ℕ) → k < m → asked ms k ≡ true → (t u : ℕ) → t < w * 64 → u < w * 64 → has w (rowsOf lw k) t u ≡ Lk ms ln k t u
 
-count-next : (P : ℕ → Bool) (m : ℕ) {b : Bool} → P m ≡ b → count (m + 1) P ≡ count m P + one b
-unfolding count
-count-next P m e = ap (λ k. count k P) (add-one m) ∙ ap (λ b. count m P + one b) e
+count-next : (P : ℕ → Bool) (m : ℕ) {b : Bool} → P m ≡ b → countBelow (m + 1) P ≡ countBelow m P + one b
+unfolding countBelow
+count-next P m e = ap (λ k. countBelow k P) (add-one m) ∙ ap (λ b. countBelow m P + one b) e
 
-count-up : (P : ℕ → Bool) (m : ℕ) → m ≤ 16 → count m P ≤ count 16 P
+count-up : (P : ℕ → Bool) (m : ℕ) → m ≤ 16 → countBelow m P ≤ countBelow 16 P
 count-up P m h =
     let e = count-add P m (16 - m) in
     let q : m + (16 - m) ≡ 16 = omega arith in
-    let r : count (m + (16 - m)) P ≡ count 16 P = ap (λ k. count k P) q in
+    let r : countBelow (m + (16 - m)) P ≡ countBelow 16 P = ap (λ k. countBelow k P) q in
     omega arith
 
 pub listed-start : {ms ln : List ℕ} {w : ℕ} {d : List ℕ} → Listed ms ln w d d 16 0
-unfolding count
+unfolding countBelow
 listed-start = record { within = omega arith; long = refl; place = omega arith; inside = λ k h. absurd (omega arith); rows = λ k h. absurd (omega arith) }
 
 module _ {ms ln : List ℕ} {w : ℕ} {d lw : List ℕ} {at m : ℕ} (s : Listed ms ln w d lw at m) where
@@ -81,7 +81,7 @@ module _ {ms ln : List ℕ} {w : ℕ} {d lw : List ℕ} {at m : ℕ} (s : Listed
   listed-skip h e = record {
     within = omega arith;
     long = s .long;
-    place = s .place ∙ ap (λ n. 16 + n * (w * 64 * w)) (sym (count-next (asked ms) m e ∙ add-zero (count m (asked ms))));
+    place = s .place ∙ ap (λ n. 16 + n * (w * 64 * w)) (sym (count-next (asked ms) m e ∙ add-zero (countBelow m (asked ms))));
     inside = λ k l f. s .inside k (below k (top k m (omega arith)) f) f;
     rows = λ k l f. s .rows k (below k (top k m (omega arith)) f) f;
   }
@@ -98,9 +98,9 @@ module _ {ms ln : List ℕ} {w : ℕ} {d lw : List ℕ} {at m : ℕ} (s : Listed
       let l = s .long in
       let a = count-next (asked ms) m e in
       let b = count-up (asked ms) (m + 1) (omega arith) in
-      let c : suc (count m (asked ms)) ≤ count 16 (asked ms) = omega arith in
+      let c : suc (countBelow m (asked ms)) ≤ countBelow 16 (asked ms) = omega arith in
       let f = mul-le-mul-right (w * 64 * w) c in
-      let g = suc-mul (count m (asked ms)) (w * 64 * w) in
+      let g = suc-mul (countBelow m (asked ms)) (w * 64 * w) in
       (omega arith, omega arith)
 
   pub listed-on : m < 16 → asked ms m ≡ true → linkRoom ms w ≤ length d → (ys : List ℕ)
@@ -114,8 +114,8 @@ module _ {ms ln : List ℕ} {w : ℕ} {d lw : List ℕ} {at m : ℕ} (s : Listed
       record {
         within = omega arith;
         long = back-long (set lw m at) at ys fits ly ∙ length-set lw m at ∙ s .long;
-        place = (let p = s .place in let a = count-next (asked ms) m e in let b : count (m + 1) (asked ms) ≡ suc (count m (asked ms)) = omega arith in
-            let g = suc-mul (count m (asked ms)) (w * 64 * w) in let c = ap (λ (n : ℕ). n * (w * 64 * w)) b in omega arith);
+        place = (let p = s .place in let a = count-next (asked ms) m e in let b : countBelow (m + 1) (asked ms) ≡ suc (countBelow m (asked ms)) = omega arith in
+            let g = suc-mul (countBelow m (asked ms)) (w * 64 * w) in let c = ap (λ (n : ℕ). n * (w * 64 * w)) b in omega arith);
         inside = λ k l g. inside-of k (top k m (omega arith)) g;
         rows = λ k l g. rows-at k (top k m (omega arith)) g;
       }
@@ -159,7 +159,7 @@ module _ {ms ln : List ℕ} {w : ℕ} {d lw : List ℕ} {at m : ℕ} (s : Listed
       let l = s .long in
       let p = s .place in
       let e : m ≡ 16 = omega arith in
-      let c = ap (λ (k : ℕ). count k (asked ms) * (w * 64 * w)) e in
+      let c = ap (λ (k : ℕ). countBelow k (asked ms) * (w * 64 * w)) e in
       record {
         head = omega arith;
         room = λ k a b. (let o = s .inside k (omega arith) b .1 in omega arith);

@@ -17,7 +17,7 @@ use Rattle.wordset.proofs.BelowLaws.{all-elim, all-intro, top}
 use Rattle.wordset.proofs.CompareLaws.{beq-refl, beq-true}
 use Rattle.wordset.proofs.PackLaws.{packed-self, equal-packed, packWord, packed-ext, packed-over}
 use Rattle.wordset.proofs.WordLaws.{drop-filled, length-filled}
-use Rattle.wordset.specs.Below.{all}
+use Rattle.wordset.specs.Below.{allBelow}
 use Rattle.wordset.specs.Words.{member, packed}
 use Rattle.closure.specs.Members.{forms}
 use Rattle.tableau.specs.Truths.{Tr}
@@ -98,14 +98,14 @@ module _ {ms ln : List ℕ} {w : ℕ} {start d e x y : List ℕ} {n : ℕ} (b : 
         ∙ packed-over (λ t. elem t (Families ms ln start (suc n))) e y w (b .long′) (b .rest) (b .room′)
 
     agree : Bool
-    agree = all (w * 64) (λ j. Bool·beq (elem j (Families ms ln start n)) (elem j (Families ms ln start (suc n))))
+    agree = allBelow (w * 64) (λ j. Bool·beq (elem j (Families ms ln start n)) (elem j (Families ms ln start (suc n))))
 
     -- what the test t of the round says
-    module _ (t : Bool) (p : t ≡ all (w * 64) (λ j. Bool·beq (member x j) (member z j))) where
+    module _ (t : Bool) (p : t ≡ allBelow (w * 64) (λ j. Bool·beq (member x j) (member z j))) where
       tests : t ≡ agree
       unfolding agree
       tests =
-          p ∙ ap₂ (λ s u. all (w * 64) (λ j. Bool·beq (member s j) (member u j))) (b .is) after
+          p ∙ ap₂ (λ s u. allBelow (w * 64) (λ j. Bool·beq (member s j) (member u j))) (b .is) after
           ∙ equal-packed (λ j. elem j (Families ms ln start n)) (λ j. elem j (Families ms ln start (suc n))) d e w (b .room) (b .room′)
 
       stays : t ≡ true → Families ms ln start (suc n) ≡ Families ms ln start n

@@ -20,7 +20,7 @@ use Rattle.wordset.proofs.BelowLaws.{all-false, any-false, same-or, least-below
 use Rattle.wordset.proofs.CompareLaws.{count-fewer}
 use Rattle.wordset.proofs.PackLaws.{packWord}
 use Rattle.wordset.proofs.WordLaws.{member-past}
-use Rattle.wordset.specs.Below.{any, count, least}
+use Rattle.wordset.specs.Below.{anyBelow, countBelow, least}
 use Rattle.wordset.specs.Words.{join, member}
 use Rattle.closure.specs.Members.{forms}
 use Rattle.tableau.specs.Tables.{form, leftAt, rightAt, tagAt}
@@ -128,7 +128,7 @@ module _ {ms ln : List ℕ} {w : ℕ} {tw lw : List ℕ} (r : Ready ms ln w tw l
 
   module _ {u₀ todo₀ v₀ u todo v : List ℕ} (s : Spreading ms ln w i src u₀ todo₀ v₀ u todo v) where
     -- it has all that are asked for
-    pub spread-covers : (dst : List ℕ) → true ≡ not (any (w * 64) (λ t. (member dst t && has w tw i t) && not (member u t)))
+    pub spread-covers : (dst : List ℕ) → true ≡ not (anyBelow (w * 64) (λ t. (member dst t && has w tw i t) && not (member u t)))
         → (t : ℕ) → t < w * 64 → member dst t ≡ true → has w tw i t ≡ true → member u t ≡ elem t (Good ms ln (listOf w src) (form ms i))
     spread-covers dst e t l m k =
         let q = inside (member dst t) (has w tw i t) (member u t) m k (any-false (λ t. (member dst t && has w tw i t) && not (member u t)) (w * 64) (none _ e) t l) in
@@ -174,7 +174,7 @@ module _ {ms ln : List ℕ} {w : ℕ} {tw lw : List ℕ} (r : Ready ms ln w tw l
           both t l = join-member u v′ u′ w k q t l
 
       -- it grew
-      pub spread-less : (u′ : List ℕ) (t : ℕ) → w ≤ length u → u′ ≡ join w u v′ → t ≡ least (w * 64) (member v′) → (t ≡ w * 64 → ⊥) → count (w * 64) (λ j. not (member u′ j)) < count (w * 64) (λ j. not (member u j))
+      pub spread-less : (u′ : List ℕ) (t : ℕ) → w ≤ length u → u′ ≡ join w u v′ → t ≡ least (w * 64) (member v′) → (t ≡ w * 64 → ⊥) → countBelow (w * 64) (λ j. not (member u′ j)) < countBelow (w * 64) (λ j. not (member u j))
       spread-less u′ t k q el f =
           let one = least-in w v′ t el f in
           count-fewer (λ j. not (member u j)) (λ j. not (member u′ j)) (w * 64) within

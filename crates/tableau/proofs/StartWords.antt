@@ -12,7 +12,7 @@ use borrow.Author.Tests.{lt-ltb, le-ltb}
 use Rattle.ctl.specs.Lists.{imp}
 use Rattle.ctl.specs.Types.{inType}
 use Rattle.wordset.proofs.BitLaws.{shl-one}
-use Rattle.wordset.specs.Below.{all}
+use Rattle.wordset.specs.Below.{allBelow}
 use Rattle.wordset.specs.Word.{bit}
 use Rattle.wordset.specs.Answers.{Answers}
 use Rattle.wordset.proofs.AnswersLaws.{or-answers}
@@ -26,8 +26,8 @@ use Rattle.tableau.proofs.PlaceWords.{computed}
 abbrev lows : List ℕ
 lows = 1 ∷ 3 ∷ 15 ∷ 255 ∷ 65535 ∷ 4294967295 ∷ []
 
-checked : all 6 (λ n. ltb (getD lows n 0) (2 ^ 64) && all 64 (λ b. Bool·beq (ltb b (2 ^ n)) (bit (getD lows n 0) b))) ≡ true
-unfolding all bit
+checked : allBelow 6 (λ n. ltb (getD lows n 0) (2 ^ 64) && allBelow 64 (λ b. Bool·beq (ltb b (2 ^ n)) (bit (getD lows n 0) b))) ≡ true
+unfolding allBelow bit
 checked = refl
 
 pub low-first : (n k : ℕ) → n < 6 → k ≡ 0 → Answers (λ t. ltb t (2 ^ n)) k (getD lows n 0)

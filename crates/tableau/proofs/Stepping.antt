@@ -19,7 +19,7 @@ use Rattle.wordset.proofs.BitLaws.{any-bit, bit-and, bit-none}
 use Rattle.wordset.proofs.CompareLaws.{both-ways}
 use Rattle.wordset.proofs.PackLaws.{packed-ext}
 use Rattle.wordset.specs.Answers.{Answers}
-use Rattle.wordset.specs.Below.{all, any, least}
+use Rattle.wordset.specs.Below.{allBelow, anyBelow, least}
 use Rattle.wordset.specs.Word.{bit}
 use Rattle.wordset.specs.Words.{member, minus, packed}
 use Rattle.tableau.specs.Blocks.{has}
@@ -60,11 +60,11 @@ apart-none w rows j y d e t l =
 pub record Dropped (S : ℕ → Bool) (w : ℕ) (rows : List ℕ) (d₀ d : List ℕ) (j : ℕ) : Type 0 where
   pub within : j ≤ w
   pub long : length d ≡ length d₀
-  pub is : (t : ℕ) → t < w * 64 → member d t ≡ (member d₀ t && not (any (j * 64) (λ c. has w rows t c && S c)))
+  pub is : (t : ℕ) → t < w * 64 → member d t ≡ (member d₀ t && not (anyBelow (j * 64) (λ c. has w rows t c && S c)))
 
 module _ {S : ℕ → Bool} {w : ℕ} {rows : List ℕ} {d₀ : List ℕ} where
   pub dropped-start : Dropped S w rows d₀ d₀ 0
-  unfolding any
+  unfolding anyBelow
   dropped-start = record { within = omega arith; long = refl; is = λ t l. sym (and-true (member d₀ t)) }
 
   pub dropped-on : {d : List ℕ} {j y : ℕ} → Dropped S w rows d₀ d j → (d′ : List ℕ) → j < w → length d′ ≡ length d → Answers S j y
@@ -74,8 +74,8 @@ module _ {S : ℕ → Bool} {w : ℕ} {rows : List ℕ} {d₀ : List ℕ} where
     within = omega arith;
     long = e ∙ s .long;
     is = λ t l. f t l ∙ ap₂ (λ p q. p && not q) (s .is t l) (any-ext (λ b. has w rows t (j * 64 + b) && bit y b) (λ b. P t (j * 64 + b)) 64 (λ b k. ap (λ z. has w rows t (j * 64 + b) && z) (sym (a .each b k))))
-        ∙ and-assoc (member d₀ t) _ _ ∙ ap (λ z. member d₀ t && z) (sym (not-or (any (j * 64) (P t)) (any 64 (λ b. P t (j * 64 + b)))))
-        ∙ ap (λ z. member d₀ t && not z) (sym (any-add (P t) (j * 64) 64) ∙ ap (λ k. any k (P t)) (let q : j * 64 + 64 ≡ (j + 1) * 64 = omega arith in q));
+        ∙ and-assoc (member d₀ t) _ _ ∙ ap (λ z. member d₀ t && z) (sym (not-or (anyBelow (j * 64) (P t)) (anyBelow 64 (λ b. P t (j * 64 + b)))))
+        ∙ ap (λ z. member d₀ t && not z) (sym (any-add (P t) (j * 64) 64) ∙ ap (λ k. anyBelow k (P t)) (let q : j * 64 + 64 ≡ (j + 1) * 64 = omega arith in q));
   }
     where
       P : ℕ → ℕ → Bool
@@ -83,7 +83,7 @@ module _ {S : ℕ → Bool} {w : ℕ} {rows : List ℕ} {d₀ : List ℕ} where
 
   pub dropped-end : {d : List ℕ} {j : ℕ} → Dropped S w rows d₀ d j → w ≤ j → (t : ℕ) → t < w * 64 → member d t ≡ (member d₀ t && not (meets w rows S t))
   unfolding meets
-  dropped-end {j = j} s h t l = let b = s .within in let e : j ≡ w = omega arith in s .is t l ∙ ap (λ k. member d₀ t && not (any (k * 64) (λ c. has w rows t c && S c))) e
+  dropped-end {j = j} s h t l = let b = s .within in let e : j ≡ w = omega arith in s .is t l ∙ ap (λ k. member d₀ t && not (anyBelow (k * 64) (λ c. has w rows t c && S c))) e
 
 -- those of d stay that are not in block i, or pass M, where v has the others
 pub dropped-kept : (M : ℕ → Bool) (d v₀ v d′ tw : List ℕ) (w i : ℕ) → ((t : ℕ) → t < w * 64 → member v₀ t ≡ (member d t && has w tw i t)) → ((t : ℕ) → t < w * 64 → member v t ≡ (member v₀ t && not (M t)))
@@ -108,23 +108,23 @@ pub record Moded (F : ℕ → ℕ → Bool) (w a : ℕ) (src d₀ d : List ℕ) 
   pub fits : rest < 2 ^ 16
   pub long : length d ≡ length d₀
   pub among : (j : ℕ) → hasMode rest j ≡ true → hasMode a j ≡ true
-  pub is : (t : ℕ) → t < w * 64 → (member d t && not (any 16 (λ j. hasMode rest j && F j t))) ≡ (member src t && not (any 16 (λ j. hasMode a j && F j t)))
+  pub is : (t : ℕ) → t < w * 64 → (member d t && not (anyBelow 16 (λ j. hasMode rest j && F j t))) ≡ (member src t && not (anyBelow 16 (λ j. hasMode a j && F j t)))
 
 -- one number of several
-any-take : (P : ℕ → Bool) (n m : ℕ) → m < n → any n P ≡ (P m || any n (λ j. P j && not (eqb j m)))
+any-take : (P : ℕ → Bool) (n m : ℕ) → m < n → anyBelow n P ≡ (P m || anyBelow n (λ j. P j && not (eqb j m)))
 any-take P n m h =
-    both-ways (any n P) (P m || any n (λ j. P j && not (eqb j m)))
+    both-ways (anyBelow n P) (P m || anyBelow n (λ j. P j && not (eqb j m)))
     (λ e. (let l = least-lt n P e in let k = least-holds n P l in ⊎-elim
     (λ q. or-left (P m) _ (ap P (sym (eqb-true (least n P) m q)) ∙ k))
     (λ q. or-right (P m) _ (any-intro (λ j. P j && not (eqb j m)) n (least n P) l (ap₂ (λ x y. x && not y) k q))) (decide (eqb (least n P) m))))
     (λ e. ⊎-elim (λ q. any-intro P n m h q)
-    (λ q. (let r = ap (λ b. b || any n (λ j. P j && not (eqb j m))) (sym q) ∙ e in
+    (λ q. (let r = ap (λ b. b || anyBelow n (λ j. P j && not (eqb j m))) (sym q) ∙ e in
     let l = least-lt n (λ j. P j && not (eqb j m)) r in
     any-intro P n _ l (and-both (P (least n (λ j. P j && not (eqb j m)))) _ (least-holds n (λ j. P j && not (eqb j m)) l) .0))) (decide (P m)))
 
 module _ {F : ℕ → ℕ → Bool} {w a : ℕ} {src : List ℕ} where
   pub mode-start : {d : List ℕ} → a < 65536 → ((t : ℕ) → t < w * 64 → member d t ≡ member src t) → Moded F w a src d d a
-  mode-start h f = record { fits = omega arith; long = refl; among = λ j k. k; is = λ t l. ap (λ z. z && not (any 16 (λ j. hasMode a j && F j t))) (f t l) }
+  mode-start h f = record { fits = omega arith; long = refl; among = λ j k. k; is = λ t l. ap (λ z. z && not (anyBelow 16 (λ j. hasMode a j && F j t))) (f t l) }
 
   module _ {d₀ d : List ℕ} {rest : ℕ} (s : Moded F w a src d₀ d rest) where
     pub mode-low : (rest ≡ 0 → ⊥) → trailingZeros 64 rest < 16
@@ -142,8 +142,8 @@ module _ {F : ℕ → ℕ → Bool} {w a : ℕ} {src : List ℕ} where
       long = e ∙ s .long;
       among = λ j k. s .among j (and-both (hasMode rest j) _ (sym (less-mode n j) ∙ k) .0);
       is = λ t l. ap₂ (λ x y. x && not y) (f t l) (any-ext (λ j. hasMode (less rest) j && F j t) (λ j. R t j && not (eqb j m)) 16 (λ j k. ap (λ z. z && F j t) (less-mode n j) ∙ swap (hasMode rest j) (eqb j m) (F j t)))
-          ∙ out (member d t) (F m t) (any 16 (λ j. R t j && not (eqb j m)))
-          ∙ ap (λ z. member d t && not z) (ap (λ z. (z && F m t) || any 16 (λ j. R t j && not (eqb j m))) (sym (mode-bit rest m ∙ lowest 16 rest (omega arith) (s .fits) n .1)) ∙ sym (any-take (R t) 16 m (mode-low n))) ∙ s .is t l;
+          ∙ out (member d t) (F m t) (anyBelow 16 (λ j. R t j && not (eqb j m)))
+          ∙ ap (λ z. member d t && not z) (ap (λ z. (z && F m t) || anyBelow 16 (λ j. R t j && not (eqb j m))) (sym (mode-bit rest m ∙ lowest 16 rest (omega arith) (s .fits) n .1)) ∙ sym (any-take (R t) 16 m (mode-low n))) ∙ s .is t l;
     }
       where
         m : ℕ
@@ -164,12 +164,12 @@ module _ {F : ℕ → ℕ → Bool} {w a : ℕ} {src : List ℕ} where
         out true false r = refl
         out false f r = refl
 
-    pub mode-end : rest ≡ 0 → (src′ : List ℕ) → w ≤ length src → src′ ≡ minus w src d → (t : ℕ) → t < w * 64 → member src′ t ≡ (member src t && any 16 (λ j. hasMode a j && F j t))
+    pub mode-end : rest ≡ 0 → (src′ : List ℕ) → w ≤ length src → src′ ≡ minus w src d → (t : ℕ) → t < w * 64 → member src′ t ≡ (member src t && anyBelow 16 (λ j. hasMode a j && F j t))
     mode-end e src′ h q t l =
         minus-member src d src′ w h q t l
-        ∙ ap (λ z. member src t && not z) (sym (and-true (member d t)) ∙ ap (λ z. member d t && not z) (sym none) ∙ s .is t l) ∙ kept (member src t) (any 16 (λ j. hasMode a j && F j t))
+        ∙ ap (λ z. member src t && not z) (sym (and-true (member d t)) ∙ ap (λ z. member d t && not z) (sym none) ∙ s .is t l) ∙ kept (member src t) (anyBelow 16 (λ j. hasMode a j && F j t))
       where
-        none : any 16 (λ j. hasMode rest j && F j t) ≡ false
+        none : anyBelow 16 (λ j. hasMode rest j && F j t) ≡ false
         none = any-none (λ j. hasMode rest j && F j t) 16 (λ j k. ap (λ z. z && F j t) (mode-bit rest j ∙ ap (λ (n : ℕ). bit n j) e ∙ bit-none j))
 
         kept : (d x : Bool) → (d && not (d && not x)) ≡ (d && x)
@@ -183,22 +183,22 @@ pub record Followed (F : ℕ → ℕ → Bool) (w n : ℕ) (d₀ v₀ d v : List
   pub within : k ≤ n
   pub long : length d ≡ length d₀
   pub long-v : length v ≡ length v₀
-  pub is : (t : ℕ) → t < w * 64 → member d t ≡ (member d₀ t && all k (λ j. F j t))
+  pub is : (t : ℕ) → t < w * 64 → member d t ≡ (member d₀ t && allBelow k (λ j. F j t))
 
 module _ {F : ℕ → ℕ → Bool} {w n : ℕ} {d₀ v₀ : List ℕ} where
   pub follow-start : Followed F w n d₀ v₀ d₀ v₀ 0
-  unfolding all
+  unfolding allBelow
   follow-start = record { within = omega arith; long = refl; long-v = refl; is = λ t l. sym (and-true (member d₀ t)) }
 
   pub follow-on : {d v : List ℕ} {k : ℕ} → Followed F w n d₀ v₀ d v k → (d′ v′ : List ℕ) → k < n → length d′ ≡ length d → length v′ ≡ length v
       → ((t : ℕ) → t < w * 64 → member d′ t ≡ (member d t && F k t)) → Followed F w n d₀ v₀ d′ v′ (k + 1)
-  unfolding all
+  unfolding allBelow
   follow-on {d} {v} {k} s d′ v′ h e g f = record {
     within = omega arith;
     long = e ∙ s .long;
     long-v = g ∙ s .long-v;
-    is = λ t l. f t l ∙ ap (λ x. x && F k t) (s .is t l) ∙ and-assoc (member d₀ t) (all k (λ j. F j t)) (F k t) ∙ ap (λ m. member d₀ t && all m (λ j. F j t)) (sym (add-one k));
+    is = λ t l. f t l ∙ ap (λ x. x && F k t) (s .is t l) ∙ and-assoc (member d₀ t) (allBelow k (λ j. F j t)) (F k t) ∙ ap (λ m. member d₀ t && allBelow m (λ j. F j t)) (sym (add-one k));
   }
 
-  pub follow-end : {d v : List ℕ} {k : ℕ} → Followed F w n d₀ v₀ d v k → n ≤ k → (t : ℕ) → t < w * 64 → member d t ≡ (member d₀ t && all n (λ j. F j t))
-  follow-end {k = k} s h t l = let b = s .within in let e : k ≡ n = omega arith in s .is t l ∙ ap (λ m. member d₀ t && all m (λ j. F j t)) e
+  pub follow-end : {d v : List ℕ} {k : ℕ} → Followed F w n d₀ v₀ d v k → n ≤ k → (t : ℕ) → t < w * 64 → member d t ≡ (member d₀ t && allBelow n (λ j. F j t))
+  follow-end {k = k} s h t l = let b = s .within in let e : k ≡ n = omega arith in s .is t l ∙ ap (λ m. member d₀ t && allBelow m (λ j. F j t)) e

@@ -9,7 +9,7 @@ use Rattle.ctl.proofs.EliminationLaws.{survivors-ascend, survivors-closed}
 use Rattle.ctl.proofs.ListLaws.{Ascending, ascending-count, ascending-keep, below-out, keep-out, keep-same}
 use Rattle.ctl.specs.Lists.{_∈_, below, elem}
 use Rattle.wordset.proofs.PackLaws.{packed-twice}
-use Rattle.wordset.specs.Below.{count}
+use Rattle.wordset.specs.Below.{countBelow}
 use Rattle.wordset.specs.Words.{member, packed}
 use Rattle.tableau.specs.declared.table.Counts.{Counts}
 use Rattle.closure.specs.Members.{forms}
@@ -49,7 +49,7 @@ module _ (w : ℕ) (base names others : List ℕ) (r : ℕ) where
         (λ t m. held (λ t. member base t && obeysBy names others r t) d x w h e t (below-out (w * 64) m))
 
     -- y and z are the stores after the rounds, and c has the counts
-    pub table-is : (ms ln second y z : List ℕ) (c : Counts) → c .start ≡ count (w * 64) (member x) → c .left ≡ count (w * 64) (member y) → c .rounds ≡ Rounds ms ln (listOf w x)
+    pub table-is : (ms ln second y z : List ℕ) (c : Counts) → c .start ≡ countBelow (w * 64) (member x) → c .left ≡ countBelow (w * 64) (member y) → c .rounds ≡ Rounds ms ln (listOf w x)
         → y ≡ packed w (λ t. elem t (Survivors ms ln (listOf w x))) x → z ≡ packed w (λ t. elem t (Survivors ms ln (listOf w x))) second
         → Tabled (startList w base names others r) (Survivors ms ln (startList w base names others r)) (Rounds ms ln (startList w base names others r)) w d second y z c
     table-is ms ln second y z c es el er ey ez =

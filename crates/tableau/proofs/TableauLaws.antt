@@ -23,7 +23,7 @@ use Rattle.ctl.specs.Types.{inType, truth}
 use Rattle.ctl.specs.Verdict.{goalTypes, roundsOf, survivingTypes}
 use Rattle.wordset.proofs.BelowLaws.{all-elim, all-ext, all-intro}
 use Rattle.wordset.proofs.CompareLaws.{beq-true, beq-refl}
-use Rattle.wordset.specs.Below.{all}
+use Rattle.wordset.specs.Below.{allBelow}
 use Rattle.wordset.specs.Words.{member, packed}
 use Rattle.tableau.specs.declared.goal.Found.{Found}
 use Rattle.tableau.specs.declared.table.Counts.{Counts}
@@ -76,7 +76,7 @@ name-first others r = ap (λ k. r / 2 ^ k % 2 ^ length others) (mul-zero (length
 module _ (S : Tableau) (others : List ℕ) (e : otherPlaces S ≡ others) (t : ℕ) where
   obeys-from : (names : List ℕ) (r : ℕ) → obeysBy names others r t ≡ obeysFrom S names r t
   unfolding obeysBy obeysFrom
-  obeys-from [] r = unfold all in refl
+  obeys-from [] r = unfold allBelow in refl
   obeys-from (v ∷ vs) r =
       all-front (length vs) (λ i. imp (inType t (getD (v ∷ vs) i 0)) (fitsSet others (nameSet others r i) t))
       ∙ ap₂ (λ a b. a && b)
@@ -100,8 +100,8 @@ module _ {S : Tableau} {ms ln globals names others : List ℕ} (m : Matches S ms
   len : length (S .ln) ≡ length ln
   len = ap length (m .lean) ∙ lean-length ms ln
 
-  globally : (t : ℕ) → all (length globals) (λ i. trueAt ms ln (getD globals i 0) t) ≡ L.all (truth (S .ln) t) (S .globals)
-  globally t = all-list (Tr ms ln t) (form ms) 0 globals ∙ ap₂ (λ k l. L.all (truth k t) l) (sym (m .lean)) (sym (m .globals-are))
+  globally : (t : ℕ) → allBelow (length globals) (λ i. trueAt ms ln (getD globals i 0) t) ≡ L.allOf (truth (S .ln) t) (S .globals)
+  globally t = all-list (Tr ms ln t) (form ms) 0 globals ∙ ap₂ (λ k l. L.allOf (truth k t) l) (sym (m .lean)) (sym (m .globals-are))
 
   obeying : (t : ℕ) → obeysBy names others r t ≡ obeys S r t
   unfolding obeys
@@ -116,7 +116,7 @@ module _ {S : Tableau} {ms ln globals names others : List ℕ} (m : Matches S ms
       there back
     where
       G : ℕ → Bool
-      G t = all (length globals) (λ i. trueAt ms ln (getD globals i 0) t)
+      G t = allBelow (length globals) (λ i. trueAt ms ln (getD globals i 0) t)
 
       there : (t : ℕ) → t ∈ keep (λ t. member base t && obeysBy names others r t) (below (w * 64)) → t ∈ keep (starts S r) (below (2 ^ length (S .ln)))
       there t i =
@@ -125,7 +125,7 @@ module _ {S : Tableau} {ms ln globals names others : List ℕ} (m : Matches S ms
           let a = T-cast (made t l) (and-0 (member base t) (obeysBy names others r t) (k .1)) in
           let b : t < 2 ^ length (S .ln) = subst (λ n. t < 2 ^ n) (sym len) (ltb-true _ _ (true-T _ (and-0 (ltb t (2 ^ length ln)) (G t) a))) in
           keep-in (starts S r) (below-in b)
-          (and-in (obeys S r t) (L.all (truth (S .ln) t) (S .globals)) (T-cast (obeying t) (and-1 (member base t) (obeysBy names others r t) (k .1))) (T-cast (globally t) (and-1 (ltb t (2 ^ length ln)) (G t) a)))
+          (and-in (obeys S r t) (L.allOf (truth (S .ln) t) (S .globals)) (T-cast (obeying t) (and-1 (member base t) (obeysBy names others r t) (k .1))) (T-cast (globally t) (and-1 (ltb t (2 ^ length ln)) (G t) a)))
 
       back : (t : ℕ) → t ∈ keep (starts S r) (below (2 ^ length (S .ln))) → t ∈ keep (λ t. member base t && obeysBy names others r t) (below (w * 64))
       back t i =
@@ -134,8 +134,8 @@ module _ {S : Tableau} {ms ln globals names others : List ℕ} (m : Matches S ms
           let l : t < w * 64 = omega arith in
           keep-in (λ t. member base t && obeysBy names others r t) (below-in l)
           (and-in (member base t) (obeysBy names others r t)
-          (T-cast⁻ (made t l) (and-in (ltb t (2 ^ length ln)) (G t) (T-true _ (lt-ltb t (2 ^ length ln) b)) (T-cast⁻ (globally t) (and-1 (obeys S r t) (L.all (truth (S .ln) t) (S .globals)) (k .1)))))
-          (T-cast⁻ (obeying t) (and-0 (obeys S r t) (L.all (truth (S .ln) t) (S .globals)) (k .1))))
+          (T-cast⁻ (made t l) (and-in (ltb t (2 ^ length ln)) (G t) (T-true _ (lt-ltb t (2 ^ length ln) b)) (T-cast⁻ (globally t) (and-1 (obeys S r t) (L.allOf (truth (S .ln) t) (S .globals)) (k .1)))))
+          (T-cast⁻ (obeying t) (and-0 (obeys S r t) (L.allOf (truth (S .ln) t) (S .globals)) (k .1))))
 
   -- ---- the surviving types and the rounds of naming r
 

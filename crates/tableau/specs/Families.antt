@@ -5,7 +5,7 @@ use Prim.Native.Nat.{ℕ, _*_, _≤_}
 use Rattle.ctl.specs.Elimination as E
 use Rattle.ctl.specs.ClosedFamily.{linked}
 use Rattle.ctl.specs.Formula.{Form, tru, fls, lit, nlit, and, or, ex, ax, eu, au, er, ar}
-use Rattle.ctl.specs.Lists.{any, all, keep, below, elem, imp}
+use Rattle.ctl.specs.Lists.{anyOf, allOf, keep, below, elem, imp}
 use Rattle.ctl.specs.Modes.{single}
 use Rattle.wordset.specs.Words.{member}
 use Rattle.closure.specs.Members.{forms}
@@ -59,8 +59,8 @@ module _ (ms ln : List ℕ) where
   passes U t (or p q) = true
   passes U t (ex A p) = imp (single A) (Next U A p t)
   passes U t (ax A p) = true
-  passes U t (eu A p q) = any (Linked A t) U
-  passes U t (au A p q) = all (Follows U A t) (forms ms)
+  passes U t (eu A p q) = anyOf (Linked A t) U
+  passes U t (au A p q) = allOf (Follows U A t) (forms ms)
   passes U t (er A p q) = true
   passes U t (ar A p q) = true
 

@@ -8,7 +8,7 @@ use lib.ListN.{length, getD, drop}
 use Rattle.ctl.specs.Links.{link, linkBy, linkRule}
 use Rattle.ctl.specs.Lists.{imp}
 use Rattle.ctl.specs.Modes.{hasMode}
-use Rattle.wordset.specs.Below.{any, count}
+use Rattle.wordset.specs.Below.{anyBelow, countBelow}
 use Rattle.wordset.specs.Word.{bit}
 use Rattle.closure.specs.Members.{argW, forms, tagW}
 use Rattle.tableau.specs.Tables.{form, leanForms}
@@ -25,11 +25,11 @@ unfoldable pub asksBy : ℕ → ℕ → Bool
 asksBy x m = (eqb (tagW x) 6 || eqb (tagW x) 8) && hasMode (argW x) m
 
 unfoldable pub asked : List ℕ → ℕ → Bool
-asked ms m = any (length ms) (λ i. asksBy (getD ms i 0) m)
+asked ms m = anyBelow (length ms) (λ i. asksBy (getD ms i 0) m)
 
 -- how many link words there are: 16 that say where a mode's rows begin, and a row for each type and each mode that is asked for
 unfoldable pub linkRoom : List ℕ → ℕ → ℕ
-linkRoom ms w = 16 + count 16 (asked ms) * (w * 64 * w)
+linkRoom ms w = 16 + countBelow 16 (asked ms) * (w * 64 * w)
 
 -- the rows of mode m
 abbrev pub rowsOf : List ℕ → ℕ → List ℕ
@@ -43,10 +43,10 @@ pub record Rows (ms ln : List ℕ) (w : ℕ) (lw : List ℕ) : Type 0 where
 
 -- by the rows of a mode t is linked to a type that passes S, or to a type that word y at j has
 unfoldable pub meets : ℕ → List ℕ → (ℕ → Bool) → ℕ → Bool
-meets w rows S t = any (w * 64) (λ c. has w rows t c && S c)
+meets w rows S t = anyBelow (w * 64) (λ c. has w rows t c && S c)
 
 unfoldable pub meetsAt : ℕ → List ℕ → ℕ → ℕ → ℕ → Bool
-meetsAt w rows j y t = any 64 (λ b. has w rows t (j * 64 + b) && bit y b)
+meetsAt w rows j y t = anyBelow 64 (λ b. has w rows t (j * 64 + b) && bit y b)
 
 -- ---- how they are found
 

@@ -7,7 +7,7 @@ use lib.ListN.{length, getD}
 use Rattle.ctl.specs.Lists.{imp, keep, below}
 use Rattle.ctl.specs.Numbers.{hasBit}
 use Rattle.ctl.specs.Types.{inType}
-use Rattle.wordset.specs.Below.{all}
+use Rattle.wordset.specs.Below.{allBelow}
 use Rattle.wordset.specs.Words.{member}
 use Rattle.tableau.specs.Truths.{trueAt}
 
@@ -21,15 +21,15 @@ placeFits others d t q = Bool·beq (hasBit d q) (inType t (getD others q 0))
 
 -- the other places of a type are the set d
 unfoldable pub fitsSet : List ℕ → ℕ → ℕ → Bool
-fitsSet others d t = all (length others) (placeFits others d t)
+fitsSet others d t = allBelow (length others) (placeFits others d t)
 
 -- a type obeys a naming
 unfoldable pub obeysBy : List ℕ → List ℕ → ℕ → ℕ → Bool
-obeysBy names others r t = all (length names) (λ i. imp (inType t (getD names i 0)) (fitsSet others (nameSet others r i) t))
+obeysBy names others r t = allBelow (length names) (λ i. imp (inType t (getD names i 0)) (fitsSet others (nameSet others r i) t))
 
 -- a type below 2 ^ n that makes all globals true
 unfoldable pub makesAll : List ℕ → List ℕ → List ℕ → ℕ → Bool
-makesAll ms ln globals t = ltb t (2 ^ length ln) && all (length globals) (λ i. trueAt ms ln (getD globals i 0) t)
+makesAll ms ln globals t = ltb t (2 ^ length ln) && allBelow (length globals) (λ i. trueAt ms ln (getD globals i 0) t)
 
 -- the start types of naming r, ascending
 unfoldable pub startList : ℕ → List ℕ → List ℕ → List ℕ → ℕ → List ℕ

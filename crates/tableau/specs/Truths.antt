@@ -7,7 +7,7 @@ use lib.ListN.{length, getD}
 use Rattle.ctl.specs.Formula.{Form}
 use Rattle.ctl.specs.Modes.{hasMode}
 use Rattle.ctl.specs.Types.{inType, truth}
-use Rattle.wordset.specs.Below.{any, least}
+use Rattle.wordset.specs.Below.{anyBelow, least}
 use Rattle.closure.specs.Members.{argW, leftW, tagW}
 use Rattle.tableau.specs.Tables.{form, leanForms, tagAt}
 use Rattle.wordset.specs.Answers.{Answers}
@@ -45,4 +45,4 @@ oneMode ms ln false a m b t = hasMode a m && inType t (placeOf ms ln 6 (2 ^ m) b
 oneMode ms ln true a m b t = hasMode a m && not (inType t (placeOf ms ln 7 (2 ^ m) b))
 
 unfoldable pub someMode : List ℕ → List ℕ → Bool → ℕ → ℕ → ℕ → Bool
-someMode ms ln n a b t = any 16 (λ m. oneMode ms ln n a m b t)
+someMode ms ln n a b t = anyBelow 16 (λ m. oneMode ms ln n a m b t)

@@ -14,7 +14,7 @@ ghost use Rattle.ctl.specs.Lists as L;
 ghost use Rattle.ctl.specs.Lists.{elem};
 ghost use Rattle.ctl.specs.Modes.{hasMode};
 ghost use Rattle.wordset.specs.Answers.{Answers};
-ghost use Rattle.wordset.specs.Below.{all, any};
+ghost use Rattle.wordset.specs.Below.{allBelow, anyBelow};
 ghost use Rattle.wordset.specs.Word.{bit};
 ghost use Rattle.wordset.specs.Words.{member, packed};
 ghost use Rattle.closure.specs.Members.{forms};
@@ -116,7 +116,7 @@ fn step(dst: &mut [u64], v: &mut [u64], u: &[u64], lw: &[u64], w: usize, a: u64)
     requires { ⌜ (16 ≤ length (now lw)) × (w ≤ 1024) × (a < 65536) ⌝ }
     requires { ⌜ ((m : ℕ) → m < 16 → hasMode a m ≡ true → getD (now lw) m 0 + w * 64 * w ≤ length (now lw)) ⌝ }
     requires { ⌜ (w ≤ length (now dst)) × (w ≤ length (now v)) × (w ≤ length (now u)) ⌝ }
-    ensures { λ _. ⌜ ((t : ℕ) → t < w * 64 → member (now (dst .exit)) t ≡ (member (now (dst .entry)) t && any 16 (λ m. hasMode a m && meets w (rowsOf (now (lw .entry)) m) (member (now (u .entry))) t))) ⌝ }
+    ensures { λ _. ⌜ ((t : ℕ) → t < w * 64 → member (now (dst .exit)) t ≡ (member (now (dst .entry)) t && anyBelow 16 (λ m. hasMode a m && meets w (rowsOf (now (lw .entry)) m) (member (now (u .entry))) t))) ⌝ }
 {
     wordset::copy(v, dst, w);
     let mut rest = a;
@@ -176,7 +176,7 @@ fn follow_all(
 )
     requires { ⌜ Ready (now ms) (now ln) w (now tw) (now lw) ⌝ }
     requires { ⌜ (w ≤ length (now u)) × (w ≤ length (now dst)) × (w ≤ length (now v)) ⌝ }
-    ensures { λ _. ⌜ ((t : ℕ) → t < w * 64 → member (now (dst .exit)) t ≡ (member (now (dst .entry)) t && L.all (Follows (now (ms .entry)) (now (ln .entry)) (listOf w (now (u .entry))) a t) (forms (now (ms .entry))))) ⌝ }
+    ensures { λ _. ⌜ ((t : ℕ) → t < w * 64 → member (now (dst .exit)) t ≡ (member (now (dst .entry)) t && L.allOf (Follows (now (ms .entry)) (now (ln .entry)) (listOf w (now (u .entry))) a t) (forms (now (ms .entry))))) ⌝ }
 {
     let mut k = 0;
     while k < ln.len() {
@@ -239,7 +239,7 @@ fn confine(dst: &mut [u64], u: &[u64], tw: &[u64], w: usize, i: usize)
 // Whether u has all types of dst that are in block i.
 fn covers(u: &[u64], dst: &[u64], tw: &[u64], w: usize, i: usize) -> bool
     requires { ⌜ (w ≤ length (now u)) × (w ≤ length (now dst)) × (i * w + w ≤ length (now tw)) ⌝ }
-    ensures { λ r. ⌜ r ≡ not (any (w * 64) (λ t. (member (now (dst .entry)) t && has w (now (tw .entry)) i t) && not (member (now (u .entry)) t))) ⌝ }
+    ensures { λ r. ⌜ r ≡ not (anyBelow (w * 64) (λ t. (member (now (dst .entry)) t && has w (now (tw .entry)) i t) && not (member (now (u .entry)) t))) ⌝ }
 {
     let mut k = 0;
     while k < w {
@@ -346,7 +346,7 @@ pub fn round(
     requires { ⌜ Ready (now ms) (now ln) w (now tw) (now lw) ⌝ }
     requires { ⌜ (w ≤ length (now src)) × (w ≤ length (now dst)) × (w ≤ length (now u)) × (w ≤ length (now todo)) × (w ≤ length (now v)) ⌝ }
     ensures { λ _. ⌜ now (dst .exit) ≡ packed w (λ t. elem t (Round (now (ms .entry)) (now (ln .entry)) (listOf w (now (src .entry))))) (now (dst .entry)) ⌝ }
-    ensures { λ r. ⌜ r ≡ all (w * 64) (λ t. Bool·beq (member (now (src .entry)) t) (member (now (dst .exit)) t)) ⌝ }
+    ensures { λ r. ⌜ r ≡ allBelow (w * 64) (λ t. Bool·beq (member (now (src .entry)) t) (member (now (dst .exit)) t)) ⌝ }
 {
     wordset::copy(dst, src, w);
     let mut i = 0;

@@ -14,7 +14,7 @@ ghost use lib.ListN.{length, getD};
 ghost use Rattle.ctl.specs.Lists.{imp};
 ghost use Rattle.ctl.specs.Modes.{hasMode};
 ghost use Rattle.wordset.specs.Answers.{Answers};
-ghost use Rattle.wordset.specs.Below.{count};
+ghost use Rattle.wordset.specs.Below.{countBelow};
 ghost use Rattle.wordset.specs.Word.{bit};
 ghost use Rattle.tableau.specs.Blocks.{has};
 ghost use Rattle.tableau.specs.Tables.{Table, tagAt};
@@ -59,7 +59,7 @@ fn asked_modes(ms: &[u64]) -> u64
 }
 
 fn count_modes(a: u64) -> usize
-    ensures { λ r. ⌜ r ≡ count 16 (hasMode a) ⌝ }
+    ensures { λ r. ⌜ r ≡ countBelow 16 (hasMode a) ⌝ }
 {
     let mut n = 0;
     let mut m = 0;

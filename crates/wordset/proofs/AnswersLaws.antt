@@ -11,7 +11,7 @@ use lib.ListN.{getD}
 use lib.Pow.{pow-pos, ones-sub-lt}
 use borrow.Author.Tests.{eq-eqb, eqb-true}
 use Rattle.wordset.specs.Answers.{Answers}
-use Rattle.wordset.specs.Below.{all}
+use Rattle.wordset.specs.Below.{allBelow}
 use Rattle.wordset.specs.Word.{bit}
 use Rattle.wordset.specs.Words.{member}
 use Rattle.wordset.proofs.BelowLaws.{all-intro, all-elim}
@@ -57,9 +57,9 @@ module _ {P Q : ℕ → Bool} {i x y : ℕ} (p : Answers P i x) (q : Answers Q i
   minus-answers = by-digits (λ s t. s && not t) (and-lt 64 x ((2 ^ 64 - 1) - y) (p .small) (ones-sub-lt 64 y)) (λ b h. bit-minus 64 b x y (q .small) h)
 
   -- the words are equal exactly if the tests agree
-  pub equal-answers : all 64 (λ b. Bool·beq (P (i * 64 + b)) (Q (i * 64 + b))) ≡ eqb x y
+  pub equal-answers : allBelow 64 (λ b. Bool·beq (P (i * 64 + b)) (Q (i * 64 + b))) ≡ eqb x y
   equal-answers =
-      both-ways (all 64 same) (eqb x y)
+      both-ways (allBelow 64 same) (eqb x y)
       (λ e. eq-eqb x y (bit-ext 64 x y (p .small) (q .small) (λ b h. sym (p .each b h) ∙ beq-true _ _ (all-elim same 64 e b h) ∙ q .each b h)))
       (λ e. all-intro same 64 (λ b h. beq-refl _ _ (p .each b h ∙ ap (λ (n : ℕ). bit n b) (eqb-true x y e) ∙ sym (q .each b h))))
     where

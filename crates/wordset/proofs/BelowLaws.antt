@@ -5,7 +5,7 @@ use mathlib.Core.Logic.{_⊎_, inl, inr, ⊎-elim}
 use Prim.Native.Nat.{ℕ, zero, suc, _+_, _*_, _≤_, _<_, suc-le-suc}
 use native.Mathlib.Nat.{add-zero, add-suc, zero-add, suc-add, zero-mul, suc-mul, add-assoc, le-of-suc-le-suc, not-suc-le-zero}
 use native.Mathlib.Omega.{arith}
-use Rattle.wordset.specs.Below.{one, all, any, count, seek, least}
+use Rattle.wordset.specs.Below.{one, allBelow, anyBelow, countBelow, seek, least}
 
 pub lt-or-le : (a b : ℕ) → (a < b) ⊎ (b ≤ a)
 lt-or-le zero zero = inr (omega arith)
@@ -29,8 +29,8 @@ top (suc i) (suc n) h = go (top i n (le-of-suc-le-suc h))
 
 module _ (P : ℕ → Bool) where
   -- ---- all
-  pub all-intro : (n : ℕ) → ((i : ℕ) → i < n → P i ≡ true) → all n P ≡ true
-  unfolding all
+  pub all-intro : (n : ℕ) → ((i : ℕ) → i < n → P i ≡ true) → allBelow n P ≡ true
+  unfolding allBelow
   all-intro zero h = refl
   all-intro (suc n) h = ap₂ _&&_ (all-intro n (λ i l. h i (omega arith))) (h n (omega arith))
 
@@ -42,35 +42,35 @@ module _ (P : ℕ → Bool) where
   and-right true b e = e
   and-right false b e = absurd (false≢true e)
 
-  pub all-elim : (n : ℕ) → all n P ≡ true → (i : ℕ) → i < n → P i ≡ true
-  unfolding all
+  pub all-elim : (n : ℕ) → allBelow n P ≡ true → (i : ℕ) → i < n → P i ≡ true
+  unfolding allBelow
   all-elim zero e i h = absurd (not-suc-le-zero h)
-  all-elim (suc n) e i h = ⊎-elim (λ q. ap P q ∙ and-right (all n P) (P n) e) (λ l. all-elim n (and-left (all n P) (P n) e) i l) (top i n h)
+  all-elim (suc n) e i h = ⊎-elim (λ q. ap P q ∙ and-right (allBelow n P) (P n) e) (λ l. all-elim n (and-left (allBelow n P) (P n) e) i l) (top i n h)
 
-  pub all-false : (n i : ℕ) → i < n → P i ≡ false → all n P ≡ false
-  all-false n i h e = go (all n P) refl
+  pub all-false : (n i : ℕ) → i < n → P i ≡ false → allBelow n P ≡ false
+  all-false n i h e = go (allBelow n P) refl
     where
-      go : (t : Bool) → all n P ≡ t → all n P ≡ false
+      go : (t : Bool) → allBelow n P ≡ t → allBelow n P ≡ false
       go true q = absurd (true≢false (sym (all-elim n q i h) ∙ e))
       go false q = q
 
-  pub all-add : (m n : ℕ) → all (m + n) P ≡ (all m P && all n (λ j. P (m + j)))
-  unfolding all
-  all-add m zero = ap (λ (k : ℕ). all k P) (add-zero m) ∙ sym (and-true (all m P))
+  pub all-add : (m n : ℕ) → allBelow (m + n) P ≡ (allBelow m P && allBelow n (λ j. P (m + j)))
+  unfolding allBelow
+  all-add m zero = ap (λ (k : ℕ). allBelow k P) (add-zero m) ∙ sym (and-true (allBelow m P))
   all-add m (suc n) =
-      ap (λ (k : ℕ). all k P) (add-suc m n) ∙ ap (λ (t : Bool). t && P (m + n)) (all-add m n)
-      ∙ and-assoc (all m P) (all n (λ j. P (m + j))) (P (m + n))
+      ap (λ (k : ℕ). allBelow k P) (add-suc m n) ∙ ap (λ (t : Bool). t && P (m + n)) (all-add m n)
+      ∙ and-assoc (allBelow m P) (allBelow n (λ j. P (m + j))) (P (m + n))
 
   -- the numbers below w * n, n at a time
-  pub all-blocks : (w n : ℕ) → all (w * n) P ≡ all w (λ i. all n (λ b. P (i * n + b)))
-  unfolding all
-  all-blocks zero n = ap (λ (k : ℕ). all k P) (zero-mul n)
+  pub all-blocks : (w n : ℕ) → allBelow (w * n) P ≡ allBelow w (λ i. allBelow n (λ b. P (i * n + b)))
+  unfolding allBelow
+  all-blocks zero n = ap (λ (k : ℕ). allBelow k P) (zero-mul n)
   all-blocks (suc w) n =
-      ap (λ (k : ℕ). all k P) (suc-mul w n) ∙ all-add (w * n) n ∙ ap (λ (t : Bool). t && all n (λ b. P (w * n + b))) (all-blocks w n)
+      ap (λ (k : ℕ). allBelow k P) (suc-mul w n) ∙ all-add (w * n) n ∙ ap (λ (t : Bool). t && allBelow n (λ b. P (w * n + b))) (all-blocks w n)
 
   -- ---- any
-  pub any-none : (n : ℕ) → ((i : ℕ) → i < n → P i ≡ false) → any n P ≡ false
-  unfolding any
+  pub any-none : (n : ℕ) → ((i : ℕ) → i < n → P i ≡ false) → anyBelow n P ≡ false
+  unfolding anyBelow
   any-none zero h = refl
   any-none (suc n) h = ap₂ _||_ (any-none n (λ i l. h i (omega arith))) (h n (omega arith))
 
@@ -82,44 +82,44 @@ module _ (P : ℕ → Bool) where
   or-right true b e = absurd (true≢false e)
   or-right false b e = e
 
-  pub any-false : (n : ℕ) → any n P ≡ false → (i : ℕ) → i < n → P i ≡ false
-  unfolding any
+  pub any-false : (n : ℕ) → anyBelow n P ≡ false → (i : ℕ) → i < n → P i ≡ false
+  unfolding anyBelow
   any-false zero e i h = absurd (not-suc-le-zero h)
-  any-false (suc n) e i h = ⊎-elim (λ q. ap P q ∙ or-right (any n P) (P n) e) (λ l. any-false n (or-left (any n P) (P n) e) i l) (top i n h)
+  any-false (suc n) e i h = ⊎-elim (λ q. ap P q ∙ or-right (anyBelow n P) (P n) e) (λ l. any-false n (or-left (anyBelow n P) (P n) e) i l) (top i n h)
 
-  pub any-intro : (n i : ℕ) → i < n → P i ≡ true → any n P ≡ true
-  any-intro n i h e = go (any n P) refl
+  pub any-intro : (n i : ℕ) → i < n → P i ≡ true → anyBelow n P ≡ true
+  any-intro n i h e = go (anyBelow n P) refl
     where
-      go : (t : Bool) → any n P ≡ t → any n P ≡ true
+      go : (t : Bool) → anyBelow n P ≡ t → anyBelow n P ≡ true
       go true q = q
       go false q = absurd (false≢true (sym (any-false n q i h) ∙ e))
 
-  pub any-add : (m n : ℕ) → any (m + n) P ≡ (any m P || any n (λ j. P (m + j)))
-  unfolding any
-  any-add m zero = ap (λ (k : ℕ). any k P) (add-zero m) ∙ sym (or-false (any m P))
+  pub any-add : (m n : ℕ) → anyBelow (m + n) P ≡ (anyBelow m P || anyBelow n (λ j. P (m + j)))
+  unfolding anyBelow
+  any-add m zero = ap (λ (k : ℕ). anyBelow k P) (add-zero m) ∙ sym (or-false (anyBelow m P))
   any-add m (suc n) =
-      ap (λ (k : ℕ). any k P) (add-suc m n) ∙ ap (λ (t : Bool). t || P (m + n)) (any-add m n)
-      ∙ or-assoc (any m P) (any n (λ j. P (m + j))) (P (m + n))
+      ap (λ (k : ℕ). anyBelow k P) (add-suc m n) ∙ ap (λ (t : Bool). t || P (m + n)) (any-add m n)
+      ∙ or-assoc (anyBelow m P) (anyBelow n (λ j. P (m + j))) (P (m + n))
 
   -- ---- count
-  pub count-add : (m n : ℕ) → count (m + n) P ≡ count m P + count n (λ j. P (m + j))
-  unfolding count
-  count-add m zero = ap (λ (k : ℕ). count k P) (add-zero m) ∙ sym (add-zero (count m P))
+  pub count-add : (m n : ℕ) → countBelow (m + n) P ≡ countBelow m P + countBelow n (λ j. P (m + j))
+  unfolding countBelow
+  count-add m zero = ap (λ (k : ℕ). countBelow k P) (add-zero m) ∙ sym (add-zero (countBelow m P))
   count-add m (suc n) =
-      ap (λ (k : ℕ). count k P) (add-suc m n) ∙ ap (λ (k : ℕ). k + one (P (m + n))) (count-add m n)
-      ∙ add-assoc (count m P) (count n (λ j. P (m + j))) (one (P (m + n)))
+      ap (λ (k : ℕ). countBelow k P) (add-suc m n) ∙ ap (λ (k : ℕ). k + one (P (m + n))) (count-add m n)
+      ∙ add-assoc (countBelow m P) (countBelow n (λ j. P (m + j))) (one (P (m + n)))
 
-  pub count-front : (n : ℕ) → count (suc n) P ≡ one (P 0) + count n (λ j. P (suc j))
-  unfolding count
+  pub count-front : (n : ℕ) → countBelow (suc n) P ≡ one (P 0) + countBelow n (λ j. P (suc j))
+  unfolding countBelow
   count-front zero = zero-add (one (P 0)) ∙ sym (add-zero (one (P 0)))
-  count-front (suc n) = ap (λ (k : ℕ). k + one (P (suc n))) (count-front n) ∙ add-assoc (one (P 0)) (count n (λ j. P (suc j))) (one (P (suc n)))
+  count-front (suc n) = ap (λ (k : ℕ). k + one (P (suc n))) (count-front n) ∙ add-assoc (one (P 0)) (countBelow n (λ j. P (suc j))) (one (P (suc n)))
 
-  pub count-le : (n : ℕ) → count n P ≤ n
-  unfolding count
+  pub count-le : (n : ℕ) → countBelow n P ≤ n
+  unfolding countBelow
   count-le zero = omega arith
   count-le (suc n) = go (P n) (count-le n)
     where
-      go : (t : Bool) → count n P ≤ n → count n P + one t ≤ suc n
+      go : (t : Bool) → countBelow n P ≤ n → countBelow n P + one t ≤ suc n
       go true h = omega arith
       go false h = omega arith
 
@@ -212,18 +212,18 @@ least-is n P i h e b =
 
 -- two tests that agree below n
 module _ (P Q : ℕ → Bool) where
-  pub any-ext : (n : ℕ) → ((i : ℕ) → i < n → P i ≡ Q i) → any n P ≡ any n Q
-  unfolding any
+  pub any-ext : (n : ℕ) → ((i : ℕ) → i < n → P i ≡ Q i) → anyBelow n P ≡ anyBelow n Q
+  unfolding anyBelow
   any-ext zero h = refl
   any-ext (suc n) h = ap₂ _||_ (any-ext n (λ i l. h i (omega arith))) (h n (omega arith))
 
-  pub all-ext : (n : ℕ) → ((i : ℕ) → i < n → P i ≡ Q i) → all n P ≡ all n Q
-  unfolding all
+  pub all-ext : (n : ℕ) → ((i : ℕ) → i < n → P i ≡ Q i) → allBelow n P ≡ allBelow n Q
+  unfolding allBelow
   all-ext zero h = refl
   all-ext (suc n) h = ap₂ _&&_ (all-ext n (λ i l. h i (omega arith))) (h n (omega arith))
 
-  pub count-ext : (n : ℕ) → ((i : ℕ) → i < n → P i ≡ Q i) → count n P ≡ count n Q
-  unfolding count
+  pub count-ext : (n : ℕ) → ((i : ℕ) → i < n → P i ≡ Q i) → countBelow n P ≡ countBelow n Q
+  unfolding countBelow
   count-ext zero h = refl
   count-ext (suc n) h = ap₂ (λ (k : ℕ) (t : Bool). k + one t) (count-ext n (λ i l. h i (omega arith))) (h n (omega arith))
 
@@ -246,19 +246,19 @@ unfolding low
 least-suc n P = low-is-least (suc n) P ∙ ap (λ (k : ℕ). cond (P 0) 0 (suc k)) (sym (low-is-least n (λ j. P (suc j))))
 
 -- some number passes exactly if there is a least one
-pub least-lt : (n : ℕ) (P : ℕ → Bool) → any n P ≡ true → least n P < n
+pub least-lt : (n : ℕ) (P : ℕ → Bool) → anyBelow n P ≡ true → least n P < n
 least-lt n P e = ⊎-elim (λ l. l) (λ g. absurd (false≢true (sym (any-none P n (λ i l. least-below n P i (omega arith))) ∙ e))) (lt-or-le (least n P) n)
 
-pub least-none : (n : ℕ) (P : ℕ → Bool) → any n P ≡ false → least n P ≡ n
+pub least-none : (n : ℕ) (P : ℕ → Bool) → anyBelow n P ≡ false → least n P ≡ n
 least-none n P e = ⊎-elim (λ l. absurd (true≢false (sym (least-holds n P l) ∙ any-false P n e (least n P) l))) (λ g. (let u = least-le n P in omega arith)) (lt-or-le (least n P) n)
 
 -- none below n, none below a smaller m
-pub any-less : (P : ℕ → Bool) (m n : ℕ) → m ≤ n → any n P ≡ false → any m P ≡ false
+pub any-less : (P : ℕ → Bool) (m n : ℕ) → m ≤ n → anyBelow n P ≡ false → anyBelow m P ≡ false
 any-less P m n h e = any-none P m (λ i l. any-false P n e i (omega arith))
 
-pub any-more : (P : ℕ → Bool) (m n : ℕ) → m ≤ n → any m P ≡ true → any n P ≡ true
-any-more P m n h e = go (any n P) refl
+pub any-more : (P : ℕ → Bool) (m n : ℕ) → m ≤ n → anyBelow m P ≡ true → anyBelow n P ≡ true
+any-more P m n h e = go (anyBelow n P) refl
   where
-    go : (t : Bool) → any n P ≡ t → any n P ≡ true
+    go : (t : Bool) → anyBelow n P ≡ t → anyBelow n P ≡ true
     go true q = q
     go false q = absurd (false≢true (sym (any-less P m n h q) ∙ e))

@@ -13,7 +13,7 @@ use lib.Pow.{shr-shr, shl-exact, pow-pos, high}
 use lib.Bits.{block-half, block-odd, bitAnd, bitOr, and-shr, or-shr, and-step, or-step, and-mask}
 use lib.Count.{ones, ones-step, trailingZeros, under}
 use borrow.Author.Tests.{ne-eqb}
-use Rattle.wordset.specs.Below.{one, any, count, least}
+use Rattle.wordset.specs.Below.{one, anyBelow, countBelow, least}
 use Rattle.wordset.specs.Word.{digit, bit, wordOf}
 use Rattle.wordset.proofs.BelowLaws.{top, count-front, any-none, any-false, least-zero, least-suc}
 
@@ -194,25 +194,25 @@ one-digit zero h = refl
 one-digit (suc zero) h = refl
 one-digit (suc (suc x)) h = absurd (omega arith)
 
-pub ones-count : (k n : ℕ) → n < 2 ^ k → ones n ≡ count k (bit n)
-unfolding count ones
+pub ones-count : (k n : ℕ) → n < 2 ^ k → ones n ≡ countBelow k (bit n)
+unfolding countBelow ones
 ones-count zero n h = ap ones (lt-one h)
 ones-count (suc k) n h =
     let p = pow-suc 2 k in
     ones-step n
     ∙ ap₂ (λ (x y : ℕ). x + y) (sym (one-digit (n % 2) (omega arith)) ∙ ap one (sym (bit-zero n)))
-    (ones-count k (n / 2) (omega arith) ∙ ap (count k) (fun-ext (λ j. sym (bit-suc n j))))
+    (ones-count k (n / 2) (omega arith) ∙ ap (countBelow k) (fun-ext (λ j. sym (bit-suc n j))))
     ∙ sym (count-front (bit n) k)
 
 -- a word is 0 exactly if it holds no number
-pub any-bit : (k n : ℕ) → n < 2 ^ k → any k (bit n) ≡ not (eqb n 0)
+pub any-bit : (k n : ℕ) → n < 2 ^ k → anyBelow k (bit n) ≡ not (eqb n 0)
 any-bit k n h = go n refl
   where
-    go : (m : ℕ) → n ≡ m → any k (bit n) ≡ not (eqb n 0)
-    go zero e = ap (λ (x : ℕ). any k (bit x)) e ∙ any-none (bit 0) k (λ i l. bit-none i) ∙ ap (λ (x : ℕ). not (eqb x 0)) (sym e)
-    go (suc m) e = go′ (any k (bit n)) refl ∙ ap not (sym (ne-eqb n 0 (omega arith)))
+    go : (m : ℕ) → n ≡ m → anyBelow k (bit n) ≡ not (eqb n 0)
+    go zero e = ap (λ (x : ℕ). anyBelow k (bit x)) e ∙ any-none (bit 0) k (λ i l. bit-none i) ∙ ap (λ (x : ℕ). not (eqb x 0)) (sym e)
+    go (suc m) e = go′ (anyBelow k (bit n)) refl ∙ ap not (sym (ne-eqb n 0 (omega arith)))
       where
-        go′ : (t : Bool) → any k (bit n) ≡ t → any k (bit n) ≡ true
+        go′ : (t : Bool) → anyBelow k (bit n) ≡ t → anyBelow k (bit n) ≡ true
         go′ true q = q
         go′ false q =
             let z : n ≡ 0 = bit-ext k n 0 h (pow-pos k) (λ i l. any-false (bit n) k q i l ∙ sym (bit-none i)) in

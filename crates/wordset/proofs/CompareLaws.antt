@@ -3,7 +3,7 @@ use mathlib.Core.Path.{_≡_, refl, sym}
 use mathlib.Core.Bool.{Bool, true, false, _&&_, Bool·beq, true≢false, false≢true}
 use Prim.Native.Nat.{ℕ, zero, suc, _+_, _≤_, _<_}
 use native.Mathlib.Omega.{arith}
-use Rattle.wordset.specs.Below.{one, all, count}
+use Rattle.wordset.specs.Below.{one, allBelow, countBelow}
 
 pub beq-true : (s t : Bool) → Bool·beq s t ≡ true → s ≡ t
 beq-true true true e = refl
@@ -32,8 +32,8 @@ module _ (P Q : ℕ → Bool) where
   one-le false true f = absurd (false≢true (f refl))
   one-le false false f = omega arith
 
-  pub count-subset : (n : ℕ) → ((j : ℕ) → Q j ≡ true → P j ≡ true) → count n Q ≤ count n P
-  unfolding count
+  pub count-subset : (n : ℕ) → ((j : ℕ) → Q j ≡ true → P j ≡ true) → countBelow n Q ≤ countBelow n P
+  unfolding countBelow
   count-subset zero f = omega arith
   count-subset (suc n) f = omega (arith, count-subset n f, one-le (P n) (Q n) (f n))
 
@@ -43,13 +43,13 @@ module _ (P Q : ℕ → Bool) where
   one-lt false true f e = absurd (false≢true (f refl))
   one-lt false false f e = absurd (true≢false e)
 
-  pub count-fewer : (n : ℕ) → ((j : ℕ) → Q j ≡ true → P j ≡ true) → all n (λ j. Bool·beq (P j) (Q j)) ≡ false → count n Q < count n P
-  unfolding count all
+  pub count-fewer : (n : ℕ) → ((j : ℕ) → Q j ≡ true → P j ≡ true) → allBelow n (λ j. Bool·beq (P j) (Q j)) ≡ false → countBelow n Q < countBelow n P
+  unfolding countBelow allBelow
   count-fewer zero f e = absurd (true≢false e)
-  count-fewer (suc n) f e = go (all n (λ j. Bool·beq (P j) (Q j))) (Bool·beq (P n) (Q n)) refl refl e (count-fewer n f)
+  count-fewer (suc n) f e = go (allBelow n (λ j. Bool·beq (P j) (Q j))) (Bool·beq (P n) (Q n)) refl refl e (count-fewer n f)
     where
-      go : (s t : Bool) → all n (λ j. Bool·beq (P j) (Q j)) ≡ s → Bool·beq (P n) (Q n) ≡ t → (s && t) ≡ false
-          → (all n (λ j. Bool·beq (P j) (Q j)) ≡ false → count n Q < count n P) → count n Q + one (Q n) < count n P + one (P n)
+      go : (s t : Bool) → allBelow n (λ j. Bool·beq (P j) (Q j)) ≡ s → Bool·beq (P n) (Q n) ≡ t → (s && t) ≡ false
+          → (allBelow n (λ j. Bool·beq (P j) (Q j)) ≡ false → countBelow n Q < countBelow n P) → countBelow n Q + one (Q n) < countBelow n P + one (P n)
       go true true p q y ih = absurd (true≢false y)
       go true false p q y ih = omega (arith, count-subset n f, one-lt (P n) (Q n) (f n) q)
       go false t p q y ih = omega (arith, ih p, one-le (P n) (Q n) (f n))

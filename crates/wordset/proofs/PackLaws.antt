@@ -11,7 +11,7 @@ use lib.Dec.{eqb}
 use lib.ListN.{length, getD, set, drop}
 use lib.Pow.{pow-pos, split, shr-shr}
 use lib.Seq.{ext-getD, getD-drop, set-getD}
-use Rattle.wordset.specs.Below.{all, count}
+use Rattle.wordset.specs.Below.{allBelow, countBelow}
 use Rattle.wordset.specs.Word.{digit, bit, wordOf}
 use Rattle.wordset.specs.Words.{member, filled, packed}
 use Rattle.wordset.proofs.BelowLaws.{lt-or-le, all-ext, count-ext}
@@ -84,10 +84,10 @@ number-packed F d w =
 
 -- they are equal exactly if the tests agree
 pub equal-packed : (P Q : ℕ → Bool) (d e : List ℕ) (w : ℕ) → w ≤ length d → w ≤ length e
-    → all (w * 64) (λ j. Bool·beq (member (packed w P d) j) (member (packed w Q e) j)) ≡ all (w * 64) (λ j. Bool·beq (P j) (Q j))
+    → allBelow (w * 64) (λ j. Bool·beq (member (packed w P d) j) (member (packed w Q e) j)) ≡ allBelow (w * 64) (λ j. Bool·beq (P j) (Q j))
 equal-packed P Q d e w h k =
     all-ext (λ j. Bool·beq (member (packed w P d) j) (member (packed w Q e) j)) (λ j. Bool·beq (P j) (Q j)) (w * 64)
     (λ j l. ap₂ Bool·beq (member-packed P d w j h l) (member-packed Q e w j k l))
 
-pub count-packed : (P : ℕ → Bool) (d l : List ℕ) (w : ℕ) → w ≤ length d → l ≡ packed w P d → count (w * 64) (member l) ≡ count (w * 64) P
+pub count-packed : (P : ℕ → Bool) (d l : List ℕ) (w : ℕ) → w ≤ length d → l ≡ packed w P d → countBelow (w * 64) (member l) ≡ countBelow (w * 64) P
 count-packed P d l w h e = count-ext (member l) P (w * 64) (λ j k. ap (λ (x : List ℕ). member x j) e ∙ member-packed P d w j h k)

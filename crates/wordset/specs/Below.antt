@@ -3,14 +3,14 @@ use Prim.Native.Nat.{ℕ, zero, suc, _+_}
 use mathlib.Core.Bool.{Bool, true, false, _&&_, _||_, cond}
 
 -- P holds of each number below n
-unfoldable pub all : ℕ → (ℕ → Bool) → Bool
-all zero P = true
-all (suc n) P = all n P && P n
+unfoldable pub allBelow : ℕ → (ℕ → Bool) → Bool
+allBelow zero P = true
+allBelow (suc n) P = allBelow n P && P n
 
 -- P holds of some number below n
-unfoldable pub any : ℕ → (ℕ → Bool) → Bool
-any zero P = false
-any (suc n) P = any n P || P n
+unfoldable pub anyBelow : ℕ → (ℕ → Bool) → Bool
+anyBelow zero P = false
+anyBelow (suc n) P = anyBelow n P || P n
 
 -- 1 where the test holds, else 0
 abbrev pub one : Bool → ℕ
@@ -18,9 +18,9 @@ one true = 1
 one false = 0
 
 -- of how many numbers below n P holds
-unfoldable pub count : ℕ → (ℕ → Bool) → ℕ
-count zero P = 0
-count (suc n) P = count n P + one (P n)
+unfoldable pub countBelow : ℕ → (ℕ → Bool) → ℕ
+countBelow zero P = 0
+countBelow (suc n) P = countBelow n P + one (P n)
 
 -- the least of the n numbers from i of which P holds, or i + n
 unfoldable pub seek : (ℕ → Bool) → ℕ → ℕ → ℕ

@@ -3,7 +3,7 @@ ghost use mathlib.Core.Path.{_≡_};
 ghost use mathlib.Core.Bool.{Bool·beq, false, _&&_, cond};
 ghost use Prim.Native.Nat.{ℕ, _+_, _*_, _^_, _≤_, _<_};
 ghost use lib.ListN.{length};
-ghost use Rattle.wordset.specs.Below.{all, any, count, least};
+ghost use Rattle.wordset.specs.Below.{allBelow, anyBelow, countBelow, least};
 ghost use Rattle.wordset.specs.Words.{member, with, without, packed, meet, join, minus};
 
 // Whether j is a member.
@@ -105,7 +105,7 @@ pub fn subtract(dst: &mut [u64], src: &[u64], w: usize)
 // Whether the sets have the same numbers below 64 * w.
 pub fn equal(a: &[u64], b: &[u64], w: usize) -> bool
     requires { ⌜ (w ≤ length (now a)) × (w ≤ length (now b)) ⌝ }
-    ensures { λ r. ⌜ r ≡ all (w * 64) (λ j. Bool·beq (member (now (a .entry)) j) (member (now (b .entry)) j)) ⌝ }
+    ensures { λ r. ⌜ r ≡ allBelow (w * 64) (λ j. Bool·beq (member (now (a .entry)) j) (member (now (b .entry)) j)) ⌝ }
 {
     let mut i = 0;
     while i < w {
@@ -120,7 +120,7 @@ pub fn equal(a: &[u64], b: &[u64], w: usize) -> bool
 // Whether some number is in both sets.
 pub fn intersects(a: &[u64], b: &[u64], w: usize) -> bool
     requires { ⌜ (w ≤ length (now a)) × (w ≤ length (now b)) ⌝ }
-    ensures { λ r. ⌜ r ≡ any (w * 64) (λ j. member (now (a .entry)) j && member (now (b .entry)) j) ⌝ }
+    ensures { λ r. ⌜ r ≡ anyBelow (w * 64) (λ j. member (now (a .entry)) j && member (now (b .entry)) j) ⌝ }
 {
     let mut i = 0;
     while i < w {
@@ -135,7 +135,7 @@ pub fn intersects(a: &[u64], b: &[u64], w: usize) -> bool
 // Whether some number is in all three sets.
 pub fn intersects3(a: &[u64], b: &[u64], c: &[u64], w: usize) -> bool
     requires { ⌜ (w ≤ length (now a)) × (w ≤ length (now b)) × (w ≤ length (now c)) ⌝ }
-    ensures { λ r. ⌜ r ≡ any (w * 64) (λ j. member (now (a .entry)) j && member (now (b .entry)) j && member (now (c .entry)) j) ⌝ }
+    ensures { λ r. ⌜ r ≡ anyBelow (w * 64) (λ j. member (now (a .entry)) j && member (now (b .entry)) j && member (now (c .entry)) j) ⌝ }
 {
     let mut i = 0;
     while i < w {
@@ -150,7 +150,7 @@ pub fn intersects3(a: &[u64], b: &[u64], c: &[u64], w: usize) -> bool
 // How many numbers below 64 * w are members.
 pub fn size(ws: &[u64], w: usize) -> usize
     requires { ⌜ (w ≤ length (now ws)) × (w * 64 < 2 ^ 64) ⌝ }
-    ensures { λ r. ⌜ r ≡ count (w * 64) (member (now (ws .entry))) ⌝ }
+    ensures { λ r. ⌜ r ≡ countBelow (w * 64) (member (now (ws .entry))) ⌝ }
 {
     let mut n: usize = 0;
     let mut i = 0;

@@ -4,14 +4,14 @@ use mathlib.Core.Path.{_≡_, ap, _∙_}
 use lib.Dec.{eqb}
 use lib.ListN.{getD}
 use native.Mathlib.Omega.{arith}
-use Rattle.wordset.specs.Below.{count}
+use Rattle.wordset.specs.Below.{countBelow}
 use Rattle.snapshot.proofs.EntryLaws.{one-small, count-next, count-none}
 use borrow.Author.Needs.{needs}
 use Rattle.snapshot.proofs.entries.on_count.Statement.{statement}
 use Rattle.snapshot.proofs.entries.on_count.Tie as tie
 
 abbrev Inv-loop : tie.InvT-loop
-Inv-loop out n k c₀ i₀ c i = (i ≤ n) × ((c ≤ i) × (c ≡ count i (λ j. eqb (getD out (j * 8 + k) 0) 1)))
+Inv-loop out n k c₀ i₀ c i = (i ≤ n) × ((c ≤ i) × (c ≡ countBelow i (λ j. eqb (getD out (j * 8 + k) 0) 1)))
 
 abbrev μ-loop : tie.MeasureT-loop
 μ-loop out n k c₀ i₀ c i = n - i
@@ -54,7 +54,7 @@ returns : tie.Need-returns Inv-loop μ-loop
 returns c =
     let b1 = c .before in
     let b3 = b1 .before .before in
-    b1 .loop .inv .1 .1 ∙ ap (λ (i : ℕ). count i (λ j. eqb (getD (b3 .args .out .now) (j * 8 + b3 .args .k) 0) 1)) (let h = b1 .loop .inv .0 in let g = c .loop-test .left in omega arith)
+    b1 .loop .inv .1 .1 ∙ ap (λ (i : ℕ). countBelow i (λ j. eqb (getD (b3 .args .out .now) (j * 8 + b3 .args .k) 0) 1)) (let h = b1 .loop .inv .0 in let g = c .loop-test .left in omega arith)
 
 pub on-count-spec : {M : Type 1} → statement M
 on-count-spec =

@@ -4,7 +4,7 @@ use mathlib.Core.Bool.{not}
 use Prim.Native.Nat.{_*_}
 use native.Mathlib.Omega.{arith}
 use borrow.Author.Needs.{needs}
-use Rattle.wordset.specs.Below.{count}
+use Rattle.wordset.specs.Below.{countBelow}
 use Rattle.wordset.specs.Words.{member}
 use Rattle.tableau.proofs.ListWords.{minus-member, pick-member}
 use Rattle.tableau.proofs.MemberLaws.{left-is, right-is}
@@ -17,7 +17,7 @@ abbrev Inv-loop : tie.InvT-loop
 Inv-loop ms ln w tw lw i src dst u₀ todo₀ v₀ x p n u todo v = Spreading ms ln w i src u₀ todo₀ v₀ u todo v
 
 abbrev μ-loop : tie.MeasureT-loop
-μ-loop ms ln w tw lw i src dst u₀ todo₀ v₀ x p n u todo v = count (w * 64) (λ j. not (member u j))
+μ-loop ms ln w tw lw i src dst u₀ todo₀ v₀ x p n u todo v = countBelow (w * 64) (λ j. not (member u j))
 
 mul-x : tie.Need-mul-x Inv-loop μ-loop
 mul-x c = search needs

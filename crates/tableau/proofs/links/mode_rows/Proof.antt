@@ -4,7 +4,7 @@ use Prim.Native.Nat.{_-_, _%_}
 use native.Mathlib.Omega.{arith}
 use lib.Dec.{leb}
 use lib.ListN.{length}
-use Rattle.wordset.specs.Below.{all}
+use Rattle.wordset.specs.Below.{allBelow}
 use Rattle.tableau.specs.Links.{ruleBy}
 use Rattle.tableau.proofs.AskedModes.{room-small}
 use Rattle.tableau.proofs.LinkWords.{members-end, members-on, members-start, row-mode}
@@ -13,7 +13,7 @@ use Rattle.tableau.proofs.links.mode_rows.Statement.{statement}
 use Rattle.tableau.proofs.links.mode_rows.Tie as tie
 
 abbrev Inv-loop : tie.InvT-loop
-Inv-loop ms ln tw rows₀ w m f back i₀ rows i = Narrowing w (length ms) rows₀ rows (λ t u. all i (λ j. ruleBy ms ln f back t u j)) i
+Inv-loop ms ln tw rows₀ w m f back i₀ rows i = Narrowing w (length ms) rows₀ rows (λ t u. allBelow i (λ j. ruleBy ms ln f back t u j)) i
 
 abbrev μ-loop : tie.MeasureT-loop
 μ-loop ms ln tw rows₀ w m f back i₀ rows i = length ms - i
