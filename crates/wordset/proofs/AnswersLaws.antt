@@ -28,20 +28,6 @@ answers-word {P} {i} {x} a = wordOf-is 64 (λ b. P (i * 64 + b)) x (a .small) (�
 pub word-answers : (ws : List ℕ) (i : ℕ) → getD ws i 0 < 2 ^ 64 → Answers (member ws) i (getD ws i 0)
 word-answers ws i h = record { small = h; each = member-at ws i }
 
--- j is at place j mod 64 of its word
-pub same-place : (j b : ℕ) → b < 64 → eqb (j / 64 * 64 + b) j ≡ eqb b (j % 64)
-same-place j b h =
-    both-ways (eqb (j / 64 * 64 + b) j) (eqb b (j % 64))
-    (λ e. (let q = eqb-true (j / 64 * 64 + b) j e in eq-eqb b (j % 64) (omega arith)))
-    (λ e. (let q = eqb-true b (j % 64) e in eq-eqb (j / 64 * 64 + b) j (omega arith)))
-
--- 1 << j % 64 holds j alone
-pub one-answers : (j : ℕ) → Answers (λ k. eqb k j) (j / 64) (1 * 2 ^ (j % 64) % 2 ^ 64)
-one-answers j = record {
-  small = mod-lt (1 * 2 ^ (j % 64)) (pow-pos 64);
-  each = λ b h. same-place j b h ∙ sym (ap (λ (n : ℕ). bit n b) (shl-one (j % 64) (omega arith)) ∙ bit-pow (j % 64) b);
-}
-
 module _ {P Q : ℕ → Bool} {i x y : ℕ} (p : Answers P i x) (q : Answers Q i y) where
   -- a word whose digits are f of those of x and y
   by-digits : (f : Bool → Bool → Bool) {v : ℕ} → v < 2 ^ 64 → ((b : ℕ) → b < 64 → bit v b ≡ f (bit x b) (bit y b)) → Answers (λ j. f (P j) (Q j)) i v

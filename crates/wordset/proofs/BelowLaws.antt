@@ -191,10 +191,6 @@ low-below (suc n) P i h = go (P 0) refl i h (low-below n (λ j. P (suc j)))
 pub least-le : (n : ℕ) (P : ℕ → Bool) → least n P ≤ n
 least-le n P = rw low-is-least (low-le n P)
 
--- numbers that fail the test are passed over
-pub least-skip : (m n : ℕ) (P : ℕ → Bool) → ((i : ℕ) → i < m → P i ≡ false) → least (m + n) P ≡ m + least n (λ j. P (m + j))
-least-skip m n P h = low-is-least (m + n) P ∙ low-skip m n P h ∙ ap (λ (k : ℕ). m + k) (sym (low-is-least n (λ j. P (m + j))))
-
 pub least-holds : (n : ℕ) (P : ℕ → Bool) → least n P < n → P (least n P) ≡ true
 least-holds n P h = let e = low-is-least n P in ap P e ∙ low-holds n P (omega arith)
 
@@ -232,9 +228,6 @@ unfolding low
 low-ext zero P Q h = refl
 low-ext (suc n) P Q h =
     ap₂ (λ (t : Bool) (r : ℕ). cond t 0 (suc r)) (h 0 (omega arith)) (low-ext n (λ j. P (suc j)) (λ j. Q (suc j)) (λ i l. h (suc i) (omega arith)))
-
-pub least-ext : (n : ℕ) (P Q : ℕ → Bool) → ((i : ℕ) → i < n → P i ≡ Q i) → least n P ≡ least n Q
-least-ext n P Q h = low-is-least n P ∙ low-ext n P Q h ∙ sym (low-is-least n Q)
 
 -- the least number, from the test of 0 up: for definitions that recurse so
 pub least-zero : (P : ℕ → Bool) → least 0 P ≡ 0

@@ -4,8 +4,6 @@ pub mod CompareLaws
 pub mod WordLaws
 pub mod PackLaws
 pub mod AnswersLaws
-pub mod SetLaws
 pub mod Filling
 pub mod Scanning
 pub mod Searching
-pub mod Collecting

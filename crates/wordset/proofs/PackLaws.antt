@@ -63,23 +63,6 @@ filled-self d (suc w) = ap (λ (x : List ℕ). set x w (getD d w 0)) (filled-sel
 pub packed-self : (d : List ℕ) (w : ℕ) → ((i : ℕ) → i < w → getD d i 0 < 2 ^ 64) → d ≡ packed w (member d) d
 packed-self d w r = sym (filled-self d w) ∙ packed-is (member d) (λ i. getD d i 0) d w r (λ i b l k. sym (member-at d i b k))
 
--- a list with the members of P in its first w words, and those of d behind them
-pub packed-by : (P : ℕ → Bool) (d l : List ℕ) (w : ℕ) → w ≤ length d → length l ≡ length d → drop w l ≡ drop w d
-    → ((i : ℕ) → i < w → getD l i 0 < 2 ^ 64) → ((j : ℕ) → j < w * 64 → member l j ≡ P j) → l ≡ packed w P d
-packed-by P d l w h n r s e = packed-self l w s ∙ packed-ext (member l) P l w e ∙ packed-over P d l w n r h
-
--- the digits of a number F of any size to the base 2 ^ 64
-pub bit-word : (F i b : ℕ) → b < 64 → bit (F / 2 ^ (i * 64) % 2 ^ 64) b ≡ bit F (i * 64 + b)
-unfolding bit
-bit-word F i b h =
-    let x : ℕ = F / 2 ^ (i * 64) in
-    ap (λ (d : ℕ). eqb d 1)
-    (sym (digit-low (x / 2 ^ 64) (x % 2 ^ 64) b 64 h) ∙ ap (λ (n : ℕ). digit n b) (split x 64) ∙ ap (λ (n : ℕ). n % 2) (shr-shr F (i * 64) b))
-
-pub number-packed : (F : ℕ) (d : List ℕ) (w : ℕ) → filled w (λ i. F / 2 ^ (i * 64) % 2 ^ 64) d ≡ packed w (bit F) d
-number-packed F d w =
-    packed-is (bit F) (λ i. F / 2 ^ (i * 64) % 2 ^ 64) d w (λ i l. mod-lt (F / 2 ^ (i * 64)) (pow-pos 64)) (λ i b l k. bit-word F i b k)
-
 -- ---- what is asked of packed sets
 
 -- they are equal exactly if the tests agree
@@ -88,6 +71,3 @@ pub equal-packed : (P Q : ℕ → Bool) (d e : List ℕ) (w : ℕ) → w ≤ len
 equal-packed P Q d e w h k =
     all-ext (λ j. Bool·beq (member (packed w P d) j) (member (packed w Q e) j)) (λ j. Bool·beq (P j) (Q j)) (w * 64)
     (λ j l. ap₂ Bool·beq (member-packed P d w j h l) (member-packed Q e w j k l))
-
-pub count-packed : (P : ℕ → Bool) (d l : List ℕ) (w : ℕ) → w ≤ length d → l ≡ packed w P d → countBelow (w * 64) (member l) ≡ countBelow (w * 64) P
-count-packed P d l w h e = count-ext (member l) P (w * 64) (λ j k. ap (λ (x : List ℕ). member x j) e ∙ member-packed P d w j h k)

@@ -10,14 +10,6 @@ use Rattle.wordset.specs.Word.{bit, wordOf}
 unfoldable pub member : List ℕ → ℕ → Bool
 member ws j = bit (getD ws (j / 64) 0) (j % 64)
 
--- the word of j holds the numbers that it held and j
-abbrev pub with : List ℕ → ℕ → List ℕ
-with ws j = set ws (j / 64) (wordOf 64 (λ b. member ws (j / 64 * 64 + b) || eqb b (j % 64)))
-
--- the word of j holds the numbers that it held but j
-abbrev pub without : List ℕ → ℕ → List ℕ
-without ws j = set ws (j / 64) (wordOf 64 (λ b. member ws (j / 64 * 64 + b) && not (eqb b (j % 64))))
-
 -- the list with g 0 to g (w - 1) as its first w elements, and the others as they were
 unfoldable pub filled : ℕ → (ℕ → ℕ) → List ℕ → List ℕ
 filled zero g d = d
@@ -26,10 +18,6 @@ filled (suc w) g d = set (filled w g d) w (g w)
 -- the list whose first w words hold the numbers below 64 * w of which P holds, and the others as they were
 abbrev pub packed : ℕ → (ℕ → Bool) → List ℕ → List ℕ
 packed w P d = filled w (λ i. wordOf 64 (λ b. P (i * 64 + b))) d
-
--- the first w words hold the numbers that are in both sets
-abbrev pub meet : ℕ → List ℕ → List ℕ → List ℕ
-meet w d s = packed w (λ j. member d j && member s j) d
 
 -- the first w words hold the numbers that are in either set
 abbrev pub join : ℕ → List ℕ → List ℕ → List ℕ
