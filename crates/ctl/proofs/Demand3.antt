@@ -18,7 +18,7 @@ use Rattle.ctl.proofs.BoolLaws.{T-true}
 use Rattle.ctl.proofs.ListLaws.{map-out}
 use Rattle.ctl.proofs.ClosureLaws.{closure-has}
 use Rattle.ctl.proofs.TableauLaws.{Proper, tableau-proper}
-use Rattle.ctl.proofs.VerdictLaws.{rounds-few, family-next, unsatisfiable-iff}
+use Rattle.ctl.proofs.VerdictLaws.{family-next, family-zero, rounds-few, rounds-first, rounds-stay, surviving-is, unsatisfiable-iff}
 use Rattle.ctl.proofs.PositiveLaws.{raw-sat}
 use Rattle.ctl.proofs.NodeTypes.{nodeType, type-is, type-only, true-node}
 use Rattle.ctl.proofs.Soundness.{starts-node, in-families, survives}
@@ -78,8 +78,12 @@ module _ (letter : ℕ → ℕ) (name : ℕ → Bool) (globals : List Raw) (goal
   pub demand-3 : Demand3 letter name globals goal (verdict S (positive goal))
   demand-3 = record {
     unsatisfiable-iff = unsatisfiable-iff S (positive goal);
-    rounds-few = rounds-few S;
+    family-zero = family-zero S;
     family-next = family-next S;
+    rounds-stay = rounds-stay S;
+    rounds-first = rounds-first S;
+    surviving-is = surviving-is S;
+    rounds-few = rounds-few S;
     one-type = λ s i l. (nodeType S s i, type-is S s i l, λ u h. type-only S s i u l h);
     at-start = λ s single hold r fits. start-there s hold r fits;
     after-rounds = λ s single hold r fits. family-there s hold r fits;

@@ -43,9 +43,14 @@ module _ (letter : ℕ → ℕ) (name : ℕ → Bool) (globals : List Raw) (goal
   pub record Demand3 (answer : Verdict) : Type 0 where
     -- (a) unsatisfiable is said exactly when under no naming a surviving type makes the goal true
     pub unsatisfiable-iff : (answer ≡ unsatisfiable) ↔ ((r t : ℕ) → r < namings S → HasGoal S (positive goal) r t → ⊥)
-    -- (b) under every naming there are at most as many rounds as types at start less those left, and each family is the one before less those that fail
-    pub rounds-few : (r : ℕ) → roundsOf S r ≤ length (startTypes S r) - length (survivingTypes S r)
+    -- (b) under every naming family 0 is the start types, and each next family is the one before less those that fail against it. Rounds is the least k for which family k + 1 equals
+    -- family k, the survivors are that family, and there are at most as many rounds as types at start less those left
+    pub family-zero : (r : ℕ) → familyOf S r 0 ≡ startTypes S r
     pub family-next : (r k t : ℕ) → (t ∈ familyOf S r (suc k)) ↔ ((t ∈ familyOf S r k) × MeetsIn S (familyOf S r k) t)
+    pub rounds-stay : (r : ℕ) → familyOf S r (suc (roundsOf S r)) ≡ familyOf S r (roundsOf S r)
+    pub rounds-first : (r k : ℕ) → familyOf S r (suc k) ≡ familyOf S r k → roundsOf S r ≤ k
+    pub surviving-is : (r : ℕ) → survivingTypes S r ≡ familyOf S r (roundsOf S r)
+    pub rounds-few : (r : ℕ) → roundsOf S r ≤ length (startTypes S r) - length (survivingTypes S r)
     -- (c) every node has one type; where every global holds at every node, each name is on at most one node and the naming fits, that type is there at the start, after every
     -- round and at the end
     pub one-type : (s : Snapshot) (i : ℕ) → i < s .n → (t : ℕ) × NodeType S s i t × ((u : ℕ) → NodeType S s i u → u ≡ t)
