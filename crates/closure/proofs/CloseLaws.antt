@@ -15,14 +15,14 @@ use Rattle.ctl.specs.Raw.{Raw}
 use Rattle.ctl.specs.Positive.{signed, positive}
 use Rattle.ctl.specs.Closure.{Unique, none, more, closure, closureAll, closureOf}
 use Rattle.ctl.proofs.ClosureLaws.{closure-unique, dedupe-in, dedupe-out}
-use Rattle.closure.specs.Members.{Members, forms, formsFrom}
-use Rattle.closure.specs.Grown.{Ready, Grows, Done, Answer}
+use Rattle.members.specs.Members.{Members, forms, formsFrom}
+use Rattle.members.specs.Grown.{Ready, Grows, Done, Answer}
 use Rattle.closure.specs.Closed.{ClosedIs, Closes, Tabled, Placed, beyond, within}
 use Rattle.closure.specs.Given.{Reads, Adds, Given}
-use Rattle.closure.proofs.MemberLaws.{forms-length}
-use Rattle.closure.proofs.StepLaws.{_⊆_, grows-none, grows-then, grows-at, too-many-then, drop-later, was-added, was-full}
-use Rattle.closure.specs.declared.Added.{Added}
-use Rattle.closure.specs.declared.Added.the-variants.{At, Full}
+use Rattle.members.proofs.MemberLaws.{forms-length}
+use Rattle.members.proofs.StepLaws.{_⊆_, grows-none, grows-then, grows-at, too-many-then, drop-later, was-added, was-full}
+use Rattle.members.specs.declared.Added.{Added}
+use Rattle.members.specs.declared.Added.the-variants.{At, Full}
 use Rattle.closure.specs.declared.Closed.{Closed}
 use Rattle.closure.specs.declared.Closed.the-variants.{Within, Beyond}
 

@@ -3,10 +3,9 @@ use mathlib.Core.Bool.{true, false}
 use Prim.Native.Nat.{ℕ, _^_, _≤_, _<_}
 use native.Mathlib.Omega.{arith}
 use Rattle.ctl.specs.Positive.{signed}
-use Rattle.ctl.specs.Alphabet.{Over}
+use Rattle.ctl.specs.Alphabet.{Over, OverRaw}
 use Rattle.syntax.specs.Raw.{Raw, zero, one, sym, neg, and, or, imp, ex, ax, ef, af, eg, ag, eu, au, er, ar}
 use Rattle.closure.specs.Given.{Fits}
-use Rattle.ctl.specs.Alphabet.{OverRaw}
 
 -- the positive form of a formula, and of its negation
 pub over-signed : (count : ℕ) (p : Raw) → OverRaw count p → Over count (signed true p) × Over count (signed false p)

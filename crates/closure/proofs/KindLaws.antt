@@ -9,7 +9,7 @@ use lib.ListN.{getD}
 use Rattle.ctl.specs.Formula.{lit, nlit}
 use Rattle.ctl.specs.Raw.{Raw}
 use Rattle.ctl.specs.Positive.{signed}
-use Rattle.closure.specs.Operators.{nextForm, joinForm, unitForm, flip, letterForm, untilForm, untilUnit}
+use Rattle.expansion.specs.Operators.{nextForm, joinForm, unitForm, flip, letterForm, untilForm, untilUnit}
 
 -- the formula of a kind, as the parser numbers them, a number and operands; q is the right or only one
 abbrev pub rawBy : ℕ → ℕ → Raw → Raw → Raw

@@ -12,16 +12,16 @@ use Rattle.ctl.specs.Formula.{Form, tru, lit, nlit}
 use Rattle.ctl.specs.Raw.{Raw}
 use Rattle.ctl.specs.Positive.{signed}
 use Rattle.ctl.specs.Closure.{spine, closureOf}
-use Rattle.closure.specs.Members.{forms, wordOf, Canon, c-lit, c-nlit}
-use Rattle.closure.specs.Grown.{Ready, Done, Answer}
-use Rattle.closure.specs.Operators.{nextForm, joinForm, unitForm, nextSpine, plainForm, strongForm, flip, letterForm, untilForm, untilUnit}
+use Rattle.members.specs.Members.{forms, wordOf, Canon, c-lit, c-nlit}
+use Rattle.members.specs.Grown.{Ready, Done, Answer}
+use Rattle.expansion.specs.Operators.{nextForm, joinForm, unitForm, nextSpine, plainForm, strongForm, flip, letterForm, untilForm, untilUnit}
 use Rattle.closure.specs.Given.{Reads, Adds}
-use Rattle.closure.proofs.StepLaws.{Then, step-then, _⊆_, sub-eq, sub-one, sub-both, sub-left, sub-right, answer-is, answer-then, answer-same, was-added, done-at, done-then, ready-then, first-full, rest-full, rest-still}
-use Rattle.closure.proofs.EachLaws.{in-head}
+use Rattle.members.proofs.StepLaws.{Then, step-then, _⊆_, sub-eq, sub-one, sub-both, sub-left, sub-right, answer-is, answer-then, answer-same, was-added, done-at, done-then, ready-then, first-full, rest-full, rest-still}
+use Rattle.expansion.proofs.EachLaws.{in-head}
 use Rattle.closure.proofs.KindLaws.{rawBy, sign-unit, sign-letter, sign-neg, sign-join, sign-next, sign-lone, sign-until}
 use Rattle.closure.proofs.NodeLaws.{Node, at-node, kindN, argN, leftN}
-use Rattle.closure.specs.declared.Added.{Added}
-use Rattle.closure.specs.declared.Added.the-variants.{At, Full}
+use Rattle.members.specs.declared.Added.{Added}
+use Rattle.members.specs.declared.Added.the-variants.{At, Full}
 
 -- ---- closures of formulas by their outermost operator
 

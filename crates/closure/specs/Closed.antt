@@ -8,7 +8,7 @@ use Rattle.ctl.specs.Formula.{Form, tru}
 use Rattle.ctl.specs.Raw.{Raw}
 use Rattle.ctl.specs.Positive.{positive}
 use Rattle.ctl.specs.Closure.{closure}
-use Rattle.closure.specs.Members.{Members, forms}
+use Rattle.members.specs.Members.{Members, forms}
 use Rattle.closure.specs.Given.{Fits, Given}
 use Rattle.closure.specs.declared.Closed.{Closed}
 use Rattle.closure.specs.declared.Closed.the-variants.{Within, Beyond}

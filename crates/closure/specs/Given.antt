@@ -6,9 +6,9 @@ use Prim.Native.Nat.{ℕ, _≤_, _<_}
 use lib.ListN.{length, getD}
 use Rattle.ctl.specs.Positive.{signed}
 use Rattle.ctl.specs.Closure.{closureOf}
-use Rattle.closure.specs.Grown.{Answer}
+use Rattle.members.specs.Grown.{Answer}
 use Rattle.syntax.specs.Raw.{Raw, zero, one, sym, neg, and, or, imp, ex, ax, ef, af, eg, ag, eu, au, er, ar, At}
-use Rattle.closure.specs.declared.Added.{Added}
+use Rattle.members.specs.declared.Added.{Added}
 
 -- every symbol and every set of modes fits a member's word
 unfoldable pub Fits : Raw → Type 0

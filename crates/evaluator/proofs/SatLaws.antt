@@ -19,7 +19,7 @@ use Rattle.ctl.specs.Evaluator.{leads, sat}
 use Rattle.ctl.specs.Snapshot.{Snapshot}
 use Rattle.ctl.proofs.NextLaws.{eachNext-same, someNext-same}
 use Rattle.ctl.proofs.EvaluatorLaws.{sat-tru, sat-fls, sat-lit, sat-nlit, sat-and, sat-or, sat-ex, sat-ax, sat-eu, sat-au, sat-er, sat-ar, unsat, unsat-is}
-use Rattle.closure.specs.Members.{argW, formBy, tagW}
+use Rattle.members.specs.Members.{argW, formBy, tagW}
 use Rattle.tableau.specs.Tables.{Table, argAt, form, leftAt, rightAt, tagAt}
 use Rattle.tableau.proofs.MemberLaws.{form-at}
 use Rattle.snapshot.specs.Store.{entryAt, ofStore}

@@ -27,9 +27,9 @@ use Rattle.sheet.specs.Refusal.{readRefusal}
 use Rattle.sheet.specs.Reading.{formulas, globalsOf, goalOf, letterOf}
 use Rattle.sheet.proofs.RefusalLaws.{right-layout}
 use Rattle.sheet.proofs.SizeLaws.{formulas-many}
-use Rattle.closure.specs.Members.{Canon, Members, c-and, c-ar, c-au, c-ax, c-er, c-eu, c-ex, c-fls, c-lit, c-nlit, c-or, c-tru, forms, leftW, tagW, wordOf}
-use Rattle.closure.proofs.MemberLaws.{canon-parts, forms-length, member, word-left, word-tag}
-use Rattle.closure.proofs.LeanLaws.{form-word}
+use Rattle.members.specs.Members.{Canon, Members, c-and, c-ar, c-au, c-ax, c-er, c-eu, c-ex, c-fls, c-lit, c-nlit, c-or, c-tru, forms, leftW, tagW, wordOf}
+use Rattle.members.proofs.MemberLaws.{canon-parts, forms-length, member, word-left, word-tag}
+use Rattle.lean.proofs.LeanLaws.{form-word}
 use Rattle.tableau.specs.Tables.{ExPlaced, Leans, Table, argAt, form, leanForms, tagAt}
 use Rattle.tableau.specs.Matches.{Matches}
 use Rattle.reader.specs.declared.Reading.{Reading}

@@ -10,7 +10,7 @@ use lib.Dec.{eqb}
 use borrow.Author.Tests.{eq-eqb, ne-eqb}
 use Rattle.ctl.proofs.ListLaws.{keep-next}
 use Rattle.ctl.specs.Lists.{keep, below}
-use Rattle.closure.specs.Members.{argW, tagW}
+use Rattle.members.specs.Members.{argW, tagW}
 use Rattle.prepare.specs.Split.{nameAt, nameWord, namesIn, othersIn, SplitIs}
 
 -- ---- a store after k turns of `most`

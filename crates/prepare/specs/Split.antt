@@ -6,7 +6,7 @@ use Prim.Native.Nat.{ℕ, _≤_, _<_}
 use lib.ListN.{length, getD, drop}
 use lib.Dec.{eqb}
 use Rattle.ctl.specs.Lists.{keep, below}
-use Rattle.closure.specs.Members.{argW, tagW}
+use Rattle.members.specs.Members.{argW, tagW}
 use Rattle.prepare.specs.declared.Split.{Split}
 
 -- a member's word is a letter, and that symbol's kind is name (kinds: 1 mark, 2 name, 3 field)

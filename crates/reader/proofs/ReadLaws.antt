@@ -22,12 +22,12 @@ use Rattle.sheet.proofs.SizeLaws.{formulas-many, texts-five, formula-size, end-
 use Rattle.sheet.proofs.Alphabet.{sheet-alphabet}
 use Rattle.closure.specs.Given.{Given}
 use Rattle.closure.specs.Closed.{Closes, Tabled, Placed, ClosedIs, within, beyond, ClosedAs}
-use Rattle.closure.specs.Leaned.{Leaning, Leans, Leaned, LeanIs, leaned, packed, LeanAs}
+use Rattle.lean.specs.Leaned.{Leaning, Leans, Leaned, LeanIs, leaned, packed, LeanAs}
 use Rattle.closure.proofs.GivenLaws.{over-fits}
 use Rattle.closure.specs.declared.Closed.{Closed}
 use Rattle.closure.specs.declared.Closed.the-variants.{Within, Beyond}
-use Rattle.closure.specs.declared.Gathered.{Gathered}
-use Rattle.closure.specs.declared.Gathered.the-variants.{Count, Crowded}
+use Rattle.lean.specs.declared.Gathered.{Gathered}
+use Rattle.lean.specs.declared.Gathered.the-variants.{Count, Crowded}
 use Rattle.reader.specs.declared.Reading.{Reading}
 use Rattle.reader.specs.declared.Refusal.the-variants.{Accepted}
 use Rattle.reader.specs.Reader.{numberOf, refusalBy, forms, members, places, refusalWithin, blank, ReadIs, RootsAre}

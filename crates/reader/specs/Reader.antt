@@ -11,7 +11,7 @@ use Rattle.ctl.specs.Lean.{lean}
 use Rattle.layout.specs.Layout.{letters, kinds}
 use Rattle.sheet.specs.Refusal.{conditions, firstOf}
 use Rattle.sheet.specs.Reading.{formulas, letterOf}
-use Rattle.closure.specs.Members as Members
+use Rattle.members.specs.Members as Members
 use Rattle.closure.specs.Closed.{Tabled, Placed}
 use Rattle.reader.specs.declared.Refusal.{Refusal}
 use Rattle.reader.specs.declared.Refusal.the-variants.{Accepted, Length, Byte, Layout, Names, Kinds, Grammar, Symbol, Braces, Closure, Lean}

@@ -6,7 +6,7 @@ ghost use lib.ListN.{length, getD};
 ghost use Rattle.sheet.specs.Sheet.{goalUnder, goalStart};
 ghost use Rattle.reader.specs.Reader.{refusalBy, numberOf, refusalOf, blank, RootsAre, ReadIs};
 use closure::Closed;
-use closure::Gathered;
+use lean::Gathered;
 
 // Why a sheet is refused; `Accepted` where it is not.
 pub enum Refusal {
@@ -119,7 +119,7 @@ fn read_in(s: &[u8], most: usize, wide: usize, nodes: &mut [u64]) -> Reading
     let symbols = sheet.symbols;
     let letters = sheet.letters;
     let mut lean = [0u8; 12];
-    let Gathered::Count(width) = closure::lean_of(&members, count, &letters[..symbols], &mut lean)
+    let Gathered::Count(width) = lean::lean_of(&members, count, &letters[..symbols], &mut lean)
     else {
         return refused(10);
     };

@@ -12,7 +12,7 @@ use lib.Dec.{eqb}
 use lib.ListN.{length, getD}
 use borrow.Author.Tests.{eq-eqb, ne-eqb}
 use Rattle.ctl.specs.Modes.{hasMode}
-use Rattle.closure.specs.Members.{argW, tagW}
+use Rattle.members.specs.Members.{argW, tagW}
 use Rattle.wordset.proofs.BelowLaws.{count-ext, count-le}
 use Rattle.wordset.proofs.BitLaws.{bit-none, bit-or}
 use Rattle.wordset.specs.Below.{anyBelow, countBelow, one}

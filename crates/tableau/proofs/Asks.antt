@@ -19,7 +19,7 @@ use Rattle.ctl.specs.Modes.{hasMode, modes, single}
 use Rattle.wordset.proofs.BelowLaws.{same-or, all-elim, all-intro, any-ext, any-intro}
 use Rattle.wordset.specs.Below.{allBelow, anyBelow}
 use Rattle.wordset.specs.Words.{member}
-use Rattle.closure.specs.Members.{formBy, forms}
+use Rattle.members.specs.Members.{formBy, forms}
 use Rattle.tableau.specs.Tables.{argAt, form, leftAt, rightAt, tagAt}
 use Rattle.tableau.specs.Blocks.{has}
 use Rattle.tableau.specs.Truths.{Tr, trueAt}

@@ -17,7 +17,7 @@ use Rattle.ctl.specs.Modes.{hasMode}
 use Rattle.wordset.proofs.BitLaws.{shl-one}
 use Rattle.wordset.proofs.BelowLaws.{count-le}
 use Rattle.wordset.specs.Below.{allBelow}
-use Rattle.closure.specs.Members.{forms}
+use Rattle.members.specs.Members.{forms}
 use Rattle.tableau.specs.Tables.{Table, argAt, form, leanForms, leftAt, rightAt, tagAt}
 use Rattle.tableau.specs.Blocks.{has}
 use Rattle.tableau.specs.Truths.{Tr, Truths, trueAt}

@@ -10,7 +10,7 @@ use Rattle.ctl.specs.Lists as L
 use Rattle.ctl.specs.Formula.{Form, tru}
 use Rattle.ctl.specs.Equality.{tag}
 use Rattle.wordset.specs.Below.{allBelow}
-use Rattle.closure.specs.Members.{argW, formBy, formOf, forms, formsFrom, leftW, rightW, tagW}
+use Rattle.members.specs.Members.{argW, formBy, formOf, forms, formsFrom, leftW, rightW, tagW}
 use Rattle.tableau.specs.Tables.{Table, argAt, form, leftAt, rightAt, tagAt}
 use Rattle.tableau.proofs.ListWords.{all-list}
 

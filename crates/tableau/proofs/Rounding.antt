@@ -18,7 +18,7 @@ use Rattle.ctl.specs.Modes.{single}
 use Rattle.wordset.proofs.PackLaws.{packed-ext, packed-held, packed-self, packed-twice}
 use Rattle.wordset.specs.Below.{allBelow}
 use Rattle.wordset.specs.Words.{member, packed}
-use Rattle.closure.specs.Members.{formBy, forms}
+use Rattle.members.specs.Members.{formBy, forms}
 use Rattle.tableau.specs.Tables.{argAt, form, leftAt, rightAt, tagAt}
 use Rattle.tableau.specs.Blocks.{has}
 use Rattle.tableau.specs.Truths.{Tr, trueAt}

@@ -19,7 +19,7 @@ use Rattle.wordset.proofs.PackLaws.{packed-self, equal-packed, packWord, packed
 use Rattle.wordset.proofs.WordLaws.{drop-filled, length-filled}
 use Rattle.wordset.specs.Below.{allBelow}
 use Rattle.wordset.specs.Words.{member, packed}
-use Rattle.closure.specs.Members.{forms}
+use Rattle.members.specs.Members.{forms}
 use Rattle.tableau.specs.Truths.{Tr}
 use Rattle.tableau.specs.Links.{Lk}
 use Rattle.tableau.specs.Families.{Round, Rounds, Survivors, listOf}

@@ -22,7 +22,7 @@ use Rattle.wordset.proofs.PackLaws.{packWord}
 use Rattle.wordset.proofs.WordLaws.{member-past}
 use Rattle.wordset.specs.Below.{anyBelow, countBelow, least}
 use Rattle.wordset.specs.Words.{join, member}
-use Rattle.closure.specs.Members.{forms}
+use Rattle.members.specs.Members.{forms}
 use Rattle.tableau.specs.Tables.{form, leftAt, rightAt, tagAt}
 use Rattle.tableau.specs.Blocks.{has}
 use Rattle.tableau.specs.Truths.{Tr, trueAt}

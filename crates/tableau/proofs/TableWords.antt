@@ -12,7 +12,7 @@ use Rattle.wordset.proofs.PackLaws.{packed-twice}
 use Rattle.wordset.specs.Below.{countBelow}
 use Rattle.wordset.specs.Words.{member, packed}
 use Rattle.tableau.specs.declared.table.Counts.{Counts}
-use Rattle.closure.specs.Members.{forms}
+use Rattle.members.specs.Members.{forms}
 use Rattle.tableau.specs.Truths.{Tr}
 use Rattle.tableau.specs.Links.{Lk}
 use Rattle.tableau.specs.Families.{Rounds, Survivors, listOf}

@@ -27,7 +27,7 @@ use Rattle.wordset.specs.Below.{allBelow}
 use Rattle.wordset.specs.Words.{member, packed}
 use Rattle.tableau.specs.declared.goal.Found.{Found}
 use Rattle.tableau.specs.declared.table.Counts.{Counts}
-use Rattle.closure.specs.Members.{forms}
+use Rattle.members.specs.Members.{forms}
 use Rattle.tableau.specs.Tables.{form, leanForms}
 use Rattle.tableau.specs.Truths.{Tr, trueAt}
 use Rattle.tableau.specs.Families.{Rounds, Survivors, listOf}

@@ -15,7 +15,7 @@ use Rattle.ctl.specs.Modes.{hasMode}
 use Rattle.ctl.specs.Types.{axEvery, exSome, holds, inType, indexOf, truth}
 use Rattle.wordset.proofs.BelowLaws.{any-ext, any-intro, least-holds, least-le, least-lt, least-suc, least-zero}
 use Rattle.wordset.specs.Below.{least}
-use Rattle.closure.specs.Members.{argW, formBy, leftW, tagW}
+use Rattle.members.specs.Members.{argW, formBy, leftW, tagW}
 use Rattle.tableau.specs.Tables.{Leans, Table, argAt, form, leanForms, leftAt, rightAt, tagAt}
 use Rattle.tableau.specs.Blocks.{has}
 use Rattle.tableau.specs.Truths.{Tr, Truths, modal, placeOf, plain, someMode, trueAt}

@@ -8,7 +8,7 @@ use Rattle.ctl.specs.Formula.{Form, tru, fls, lit, nlit, and, or, ex, ax, eu, a
 use Rattle.ctl.specs.Lists.{anyOf, allOf, keep, below, elem, imp}
 use Rattle.ctl.specs.Modes.{single}
 use Rattle.wordset.specs.Words.{member}
-use Rattle.closure.specs.Members.{forms}
+use Rattle.members.specs.Members.{forms}
 use Rattle.tableau.specs.Tables.{ExPlaced, Leans, Table}
 use Rattle.tableau.specs.Truths.{Tr, Truths}
 use Rattle.tableau.specs.Links.{Lk, Rows}

@@ -10,7 +10,7 @@ use Rattle.ctl.specs.Lists.{imp}
 use Rattle.ctl.specs.Modes.{hasMode}
 use Rattle.wordset.specs.Below.{anyBelow, countBelow}
 use Rattle.wordset.specs.Word.{bit}
-use Rattle.closure.specs.Members.{argW, forms, tagW}
+use Rattle.members.specs.Members.{argW, forms, tagW}
 use Rattle.tableau.specs.Tables.{form, leanForms}
 use Rattle.tableau.specs.Blocks.{has}
 use Rattle.tableau.specs.declared.links.Rule.{Rule}

@@ -5,7 +5,7 @@ use Prim.Native.Nat.{ℕ}
 use Rattle.ctl.specs.Lists.{_∈_}
 use Rattle.ctl.specs.Formula.{Form}
 use Rattle.ctl.specs.Tableau.{Tableau, namePlaces, otherPlaces}
-use Rattle.closure.specs.Members.{forms}
+use Rattle.members.specs.Members.{forms}
 use Rattle.tableau.specs.Tables.{form, leanForms}
 
 -- The table has the closure's members, in any order. The lean, the globals and the places of names and of others are the tableau's

@@ -6,7 +6,7 @@ use Prim.Native.Nat.{ℕ, _≤_, _<_}
 use lib.ListN.{length, getD}
 use Rattle.ctl.specs.Formula.{Form, tru}
 use Rattle.ctl.specs.Modes.{single}
-use Rattle.closure.specs.Members.{argW, forms, leftW, rightW, tagW}
+use Rattle.members.specs.Members.{argW, forms, leftW, rightW, tagW}
 
 -- member i, and the parts of its word
 unfoldable pub form : List ℕ → ℕ → Form

@@ -8,7 +8,7 @@ use Rattle.ctl.specs.Formula.{Form}
 use Rattle.ctl.specs.Modes.{hasMode}
 use Rattle.ctl.specs.Types.{inType, truth}
 use Rattle.wordset.specs.Below.{anyBelow, least}
-use Rattle.closure.specs.Members.{argW, leftW, tagW}
+use Rattle.members.specs.Members.{argW, leftW, tagW}
 use Rattle.tableau.specs.Tables.{form, leanForms, tagAt}
 use Rattle.wordset.specs.Answers.{Answers}
 

@@ -17,7 +17,7 @@ ghost use Rattle.wordset.specs.Answers.{Answers};
 ghost use Rattle.wordset.specs.Below.{allBelow, anyBelow};
 ghost use Rattle.wordset.specs.Word.{bit};
 ghost use Rattle.wordset.specs.Words.{member, packed};
-ghost use Rattle.closure.specs.Members.{forms};
+ghost use Rattle.members.specs.Members.{forms};
 ghost use Rattle.tableau.specs.Tables.{form, tagAt};
 ghost use Rattle.tableau.specs.Blocks.{has};
 ghost use Rattle.tableau.specs.Links.{meets, meetsAt, rowsOf};

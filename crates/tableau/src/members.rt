@@ -4,7 +4,7 @@ ghost use mathlib.Core.Bool.{true};
 ghost use mathlib.Core.Logic.{_⊎_};
 ghost use Prim.Native.Nat.{_<_, _^_};
 ghost use Rattle.ctl.specs.Modes.{hasMode, single};
-ghost use Rattle.closure.specs.Members.{argW, leftW, rightW, tagW};
+ghost use Rattle.members.specs.Members.{argW, leftW, rightW, tagW};
 
 // The tag of a member's word.
 pub fn tag(x: u64) -> u64

@@ -3,7 +3,7 @@ use borrow.Author.Needs.{needs}
 use native.Mathlib.Omega.{arith}
 use lib.ListN.{getD}
 use Rattle.closure.proofs.NodeLaws.{kindN, reads-small, reads-kind, reads-arg, reads-later, reads-right, reads-earlier, reads-left}
-use Rattle.closure.proofs.StepLaws.{step-then}
+use Rattle.members.proofs.StepLaws.{step-then}
 use Rattle.closure.proofs.SignLaws.{at-unit, at-letter, at-neg, at-right-full, at-next, at-lone-full, at-lone, at-left-full, at-join, at-until, read-then}
 use Prim.Native.Nat.{ℕ, _≤_, _<_}
 use borrow.Fn.Kinds.{In}
@@ -12,11 +12,11 @@ use Rattle.closure.proofs.positive.Reads as positive
 use Rattle.closure.proofs.positive.Kinds as positive-kinds
 use Rattle.closure.proofs.+positive.Lts-positive as positive-lts
 use Rattle.closure.proofs.flipped.Reads as flipped-reads
-use Rattle.closure.proofs.join.Reads as join-reads
+use Rattle.expansion.proofs.join.Reads as join-reads
 use Rattle.closure.proofs.letter.Reads as letter-reads
 use Rattle.closure.proofs.lone_unit.Reads as lone-unit-reads
-use Rattle.closure.proofs.next.Reads as next-reads
-use Rattle.closure.proofs.unit.Reads as unit-reads
+use Rattle.expansion.proofs.next.Reads as next-reads
+use Rattle.expansion.proofs.unit.Reads as unit-reads
 use Rattle.closure.proofs.until.Reads as until-reads
 use Rattle.closure.proofs.+positive.{statement}
 use Rattle.closure.proofs.+positive.Tie.{close}

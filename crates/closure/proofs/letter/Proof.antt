@@ -1,5 +1,5 @@
 -- `closure::letter` meets its contract: by the laws of SignLaws. Assumes nothing.
-use Rattle.closure.proofs.StepLaws.{was-added, ready-then}
+use Rattle.members.proofs.StepLaws.{was-added, ready-then}
 use Rattle.closure.proofs.SignLaws.{asks-lit, asks-nlit, letter-plain, letter-full, letter-full-2, letter-last}
 use borrow.Author.Needs.{needs}
 use Rattle.closure.proofs.letter.Statement.{statement}

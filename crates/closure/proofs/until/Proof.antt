@@ -1,7 +1,7 @@
 -- `closure::until` meets its contract: the arms are the cases of `untilForm`. Assumes nothing.
 use lib.ListN.{take, getD}
 use Rattle.ctl.specs.Formula.{tru}
-use Rattle.closure.specs.Members.{forms}
+use Rattle.members.specs.Members.{forms}
 use Rattle.closure.proofs.SignLaws.{until-is}
 use native.Mathlib.Omega.{arith}
 use borrow.Author.Needs.{needs}

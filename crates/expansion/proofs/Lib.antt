@@ -1,0 +1,4 @@
+pub mod NextLaws
+pub mod EachLaws
+pub mod UntilLaws
+pub mod StrongLaws

@@ -1,0 +1,3 @@
+pub mod MemberLaws
+pub mod StepLaws
+pub mod ModeListLaws
