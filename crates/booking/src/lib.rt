@@ -6,7 +6,7 @@ ghost use lib.ListN.{length, drop};
 ghost use Rattle.ctl.specs.Lists.{elem};
 ghost use Rattle.wordset.specs.Words.{packed};
 ghost use Rattle.tableau.specs.Families.{Ready, Survivors};
-ghost use Rattle.tableau.specs.Starts.{startList};
+ghost use Rattle.start.specs.Starts.{startList};
 ghost use Rattle.judge.specs.Judged.{Places};
 ghost use Rattle.booking.specs.Booked.{tablesBy};
 

@@ -17,8 +17,8 @@ use Rattle.wordset.proofs.BelowLaws.{all-ext}
 use Rattle.wordset.proofs.BitLaws.{bit-and, bit-wordOf, wordOf-is, wordOf-lt}
 use Rattle.wordset.proofs.WordLaws.{filled-at, filled-past, length-filled}
 use Rattle.ctl.specs.Evaluator.{sat}
-use Rattle.tableau.specs.Tables.{form}
-use Rattle.tableau.proofs.ListWords.{all-list}
+use Rattle.truth.specs.Tables.{form}
+use Rattle.truth.proofs.ListWords.{all-list}
 use Rattle.snapshot.specs.Store.{ofStore}
 use Rattle.evaluator.specs.Nodes.{allWord, cellBy, fullWord}
 use Rattle.evaluator.specs.Rows.{cellOf, rowOf}

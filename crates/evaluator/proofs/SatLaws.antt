@@ -20,8 +20,8 @@ use Rattle.ctl.specs.Snapshot.{Snapshot}
 use Rattle.ctl.proofs.NextLaws.{eachNext-same, someNext-same}
 use Rattle.ctl.proofs.EvaluatorLaws.{sat-tru, sat-fls, sat-lit, sat-nlit, sat-and, sat-or, sat-ex, sat-ax, sat-eu, sat-au, sat-er, sat-ar, unsat, unsat-is}
 use Rattle.members.specs.Members.{argW, formBy, tagW}
-use Rattle.tableau.specs.Tables.{Table, argAt, form, leftAt, rightAt, tagAt}
-use Rattle.tableau.proofs.MemberLaws.{form-at}
+use Rattle.truth.specs.Tables.{Table, argAt, form, leftAt, rightAt, tagAt}
+use Rattle.truth.proofs.MemberLaws.{form-at}
 use Rattle.snapshot.specs.Store.{entryAt, ofStore}
 use Rattle.evaluator.specs.Nodes.{auWord, edgeWords, euWord, flipWord, fullWord, memberBy, memberWord, modalWord, nextWord, onWord, plainWord, preWord}
 use Rattle.evaluator.proofs.NodeLaws.{bit-flip, flip-lt}

@@ -1,6 +1,6 @@
 // What a store says of the nodes of a snapshot: the symbols on them, and where the modes of a set lead. Assumes nothing.
 use crate::nodes::add_if;
-use tableau::members::has_mode;
+use members::parts::has_mode;
 ghost use mathlib.Core.Path.{_≡_};
 ghost use Prim.Native.Nat.{_+_, _*_, _≤_, _<_};
 ghost use lib.ListN.{length};

@@ -15,7 +15,7 @@ ghost use mathlib.Core.List.{_++_, map};
 ghost use Prim.Native.Nat.{ℕ, _*_, _≤_, _<_};
 ghost use lib.ListN.{drop, getD, length};
 ghost use Rattle.wordset.specs.Words.{filled};
-ghost use Rattle.tableau.specs.Tables.{Table, form};
+ghost use Rattle.truth.specs.Tables.{Table, form};
 ghost use Rattle.snapshot.specs.Store.{ofStore};
 ghost use Rattle.evaluator.specs.Nodes.{allWord, cellBy};
 ghost use Rattle.evaluator.specs.Rows.{rowOf};

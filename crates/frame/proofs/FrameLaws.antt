@@ -11,8 +11,8 @@ use Rattle.ctl.specs.Positive.{positive}
 use Rattle.ctl.specs.Tableau.{Tableau, namePlaces, namings, otherPlaces}
 use Rattle.sheet.specs.Refusal.{readRefusal}
 use Rattle.sheet.specs.Reading.{formulas, goalOf, globalsOf}
-use Rattle.tableau.specs.Tables.{Leans, Table, form}
-use Rattle.tableau.specs.Links.{linkRoom}
+use Rattle.truth.specs.Tables.{Leans, Table, form}
+use Rattle.links.specs.Links.{linkRoom}
 use Rattle.reader.specs.declared.Reading.{Reading}
 use Rattle.reader.specs.Reader.{Says}
 use Rattle.prepare.specs.declared.Split.{Split}

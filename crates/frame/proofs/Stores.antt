@@ -5,9 +5,9 @@ use Prim.Native.Nat.{ℕ, _*_, _≤_}
 use native.Mathlib.Omega.{arith}
 use lib.ListN.{length}
 use Rattle.tableau.specs.Families.{Ready}
-use Rattle.tableau.specs.Links.{Rows, linkRoom}
-use Rattle.tableau.specs.Truths.{Truths}
-use Rattle.tableau.proofs.LinkWords.{link-room-within}
+use Rattle.links.specs.Links.{Rows, linkRoom}
+use Rattle.truth.specs.Truths.{Truths}
+use Rattle.links.proofs.LinkWords.{link-room-within}
 use Rattle.frame.specs.Framed.{Sound}
 use Rattle.frame.specs.SetUp.{Accepts, globalsIn, leanIn, membersIn}
 use Rattle.frame.specs.declared.Setup.{Setup}

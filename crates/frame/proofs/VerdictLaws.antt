@@ -7,7 +7,7 @@ use Rattle.ctl.specs.Formula.{Form}
 use Rattle.ctl.specs.Tableau.{Tableau}
 use Rattle.ctl.specs.Verdict.{verdict}
 use Rattle.wordset.specs.Words.{packed}
-use Rattle.tableau.specs.Starts.{makesAll}
+use Rattle.start.specs.Starts.{makesAll}
 use Rattle.judge.specs.declared.Verdict.{Verdict}
 use Rattle.judge.specs.Judged.{Judged, goalsAt, verdictOf}
 use Rattle.judge.proofs.JudgeLaws.{judged-is}

@@ -9,9 +9,9 @@ use Rattle.ctl.specs.Positive.{positive}
 use Rattle.ctl.specs.Tableau.{Tableau, namings}
 use Rattle.sheet.specs.Refusal.{readRefusal}
 use Rattle.sheet.specs.Reading.{formulas, goalOf}
-use Rattle.tableau.specs.Links.{linkRoom}
+use Rattle.links.specs.Links.{linkRoom}
 use Rattle.tableau.specs.Matches.{Matches}
-use Rattle.tableau.specs.Tables.{ExPlaced, Leans, Table, form}
+use Rattle.truth.specs.Tables.{ExPlaced, Leans, Table, form}
 use Rattle.reader.specs.declared.Reading.{Reading}
 use Rattle.reader.specs.Reader.{Says}
 use Rattle.prepare.specs.Prepared.{kindsOf, leanOf, tableOf, tableauIn}

@@ -4,8 +4,8 @@ ghost use mathlib.Core.Path.{_≡_};
 ghost use Prim.Native.Nat.{ℕ, _*_, _^_, _≤_, _<_};
 ghost use lib.ListN.{length, getD, take};
 ghost use Rattle.tableau.specs.Families.{Ready};
-ghost use Rattle.tableau.specs.Links.{linkRoom};
-ghost use Rattle.tableau.specs.Starts.{makesAll};
+ghost use Rattle.links.specs.Links.{linkRoom};
+ghost use Rattle.start.specs.Starts.{makesAll};
 ghost use Rattle.wordset.specs.Words.{packed};
 ghost use Rattle.frame.specs.Framed.{Frames, FramedAs, Sound};
 ghost use Rattle.frame.specs.SetUp.{SetUp, nothingBy};
@@ -57,7 +57,7 @@ fn frame_of(
     ensures { λ f. ⌜ FramedAs (now (ms .entry)) (now (ln .entry)) (now (kinds .entry)) (now (places .entry)) (now (globals .exit)) (now (names .exit)) (now (others .exit)) f ⌝ }
 {
     let w = prepare::words_for(ln.len());
-    let links = tableau::links::link_room(ms, w);
+    let links = links::link_room(ms, w);
     let n = places.len() - 1;
     copy_places(places, n, globals);
     let split = prepare::split_lean(ms, ln, kinds, names, others);
@@ -181,7 +181,7 @@ pub fn fill(
     ensures { λ _. ⌜ Ready (now (ms .entry)) (now (ln .entry)) w (now (tw .exit)) (now (lw .exit)) ⌝ }
     ensures { λ _. ⌜ now (base .exit) ≡ packed w (makesAll (now (ms .entry)) (now (ln .entry)) (now (globals .entry))) (now (base .entry)) ⌝ }
 {
-    tableau::truth::truth_words(ms, ln, tw, w);
-    tableau::links::link_words(ms, ln, tw, lw, w);
-    tableau::start::base_words(ms, ln, tw, w, globals, base);
+    truth::truth_words(ms, ln, tw, w);
+    links::link_words(ms, ln, tw, lw, w);
+    start::base_words(ms, ln, tw, w, globals, base);
 }

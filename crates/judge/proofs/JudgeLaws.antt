@@ -14,10 +14,11 @@ use Rattle.ctl.specs.Verdict.{goalTypes, verdict, verdictOver}
 use Rattle.ctl.specs.Verdict as Ctl
 use Rattle.wordset.proofs.BelowLaws.{top}
 use Rattle.wordset.specs.Words.{packed}
-use Rattle.tableau.specs.Truths.{trueAt}
-use Rattle.tableau.specs.Families.{listOf, Survivors}
-use Rattle.tableau.specs.Starts.{startList, makesAll}
-use Rattle.tableau.specs.Tables.{form}
+use Rattle.truth.specs.Truths.{trueAt}
+use Rattle.truth.specs.Blocks.{listOf}
+use Rattle.tableau.specs.Families.{Survivors}
+use Rattle.start.specs.Starts.{startList, makesAll}
+use Rattle.truth.specs.Tables.{form}
 use Rattle.tableau.specs.Goals.{firstOf}
 use Rattle.tableau.specs.declared.goal.Found.{Found}
 use Rattle.tableau.specs.declared.goal.Found.the-variants.{At, Nothing}

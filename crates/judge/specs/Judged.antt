@@ -5,9 +5,9 @@ use Prim.Native.Nat.{ℕ, _≤_, _<_}
 use lib.ListN.{length, getD}
 use Rattle.ctl.specs.Lists.{keep}
 use Rattle.ctl.specs.Verdict as Ctl
-use Rattle.tableau.specs.Truths.{trueAt}
+use Rattle.truth.specs.Truths.{trueAt}
 use Rattle.tableau.specs.Families.{Survivors}
-use Rattle.tableau.specs.Starts.{startList}
+use Rattle.start.specs.Starts.{startList}
 use Rattle.tableau.specs.Goals.{firstOf}
 use Rattle.tableau.specs.declared.goal.Found.the-variants.{At}
 use Rattle.judge.specs.declared.Verdict.{Verdict}

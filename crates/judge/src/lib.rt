@@ -3,7 +3,7 @@ ghost use mathlib.Core.Path.{_≡_};
 ghost use Prim.Native.Nat.{_≤_, _<_};
 ghost use lib.ListN.{length};
 ghost use Rattle.tableau.specs.Families.{Ready, Rounds, Survivors};
-ghost use Rattle.tableau.specs.Starts.{startList};
+ghost use Rattle.start.specs.Starts.{startList};
 ghost use Rattle.tableau.specs.Tabled.{Tabled};
 ghost use Rattle.judge.specs.Judged.{goalsAt, Room, Places, Judged};
 ghost use Rattle.tableau.specs.Goals.{firstOf};

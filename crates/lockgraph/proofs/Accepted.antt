@@ -9,11 +9,12 @@ use Rattle.ctl.specs.Tableau.{Tableau, namings, startTypes}
 use Rattle.ctl.specs.Verdict as Ctl
 use Rattle.ctl.specs.Verdict.{roundsOf, survivingTypes}
 use Rattle.sheet.specs.Reading.{formulas, goalOf}
-use Rattle.tableau.specs.Families.{Ready, Rounds, Survivors, listOf}
-use Rattle.tableau.specs.Links.{linkRoom}
-use Rattle.tableau.specs.Starts.{makesAll, startList}
+use Rattle.tableau.specs.Families.{Ready, Rounds, Survivors}
+use Rattle.truth.specs.Blocks.{listOf}
+use Rattle.links.specs.Links.{linkRoom}
+use Rattle.start.specs.Starts.{makesAll, startList}
 use Rattle.tableau.specs.Tabled.{Tabled}
-use Rattle.tableau.specs.Tables.{form, leanForms}
+use Rattle.truth.specs.Tables.{form, leanForms}
 use Rattle.tableau.specs.declared.table.Counts.{Counts}
 use Rattle.tableau.proofs.TableauLaws.{store-types, surviving-types, tabled}
 use Rattle.reader.specs.Reader.{refusalOf}

@@ -7,8 +7,8 @@ use mathlib.Core.Bool.{cond}
 use lib.ListN.{length, take, drop}
 use borrow.Author.Tests.{le-ltb, lt-ltb}
 use Rattle.ctl.proofs.ListLaws.{Ascending}
-use Rattle.tableau.specs.Families.{listOf}
-use Rattle.tableau.proofs.ListWords.{list-ascend}
+use Rattle.truth.specs.Blocks.{listOf}
+use Rattle.truth.proofs.ListWords.{list-ascend}
 use Rattle.listing.specs.Listed.{EachOnce, Listed}
 use Rattle.listing.proofs.ListedLaws.{ascending-once, listed-front, listed-rest}
 use Rattle.reader.specs.Reader.{refusalOf}

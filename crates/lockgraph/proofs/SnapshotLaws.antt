@@ -29,7 +29,7 @@ use Rattle.snapshot.specs.Store.{ofStore}
 use Rattle.snapshot.specs.Text.{Text}
 use Rattle.snapshot.specs.declared.Answer.{Answer}
 use Rattle.snapshot.specs.declared.Answer.the-variants as Reading
-use Rattle.tableau.specs.Tables.{Table, form}
+use Rattle.truth.specs.Tables.{Table, form}
 use Rattle.reader.proofs.NumberLaws.{within-zero}
 use Rattle.reader.specs.Reader.{ReadIs, numberOf, refusalOf}
 use Rattle.reader.specs.declared.Reading as Reader

@@ -1,3 +1,4 @@
 pub mod MemberLaws
 pub mod StepLaws
 pub mod ModeListLaws
+pub mod ModeLaws

@@ -7,6 +7,8 @@ ghost use Rattle.ctl.specs.Formula.{tru};
 ghost use Rattle.members.specs.Members.{wordOf, formOf, formBy, forms, Canon};
 ghost use Rattle.members.specs.Grown.{Ready, Answer};
 
+pub mod parts;
+
 // What adding a formula finds: its place and how many members there are then; or that the table has no room.
 pub enum Added {
     At { index: usize, count: usize },

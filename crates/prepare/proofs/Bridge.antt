@@ -30,7 +30,7 @@ use Rattle.sheet.proofs.SizeLaws.{formulas-many}
 use Rattle.members.specs.Members.{Canon, Members, c-and, c-ar, c-au, c-ax, c-er, c-eu, c-ex, c-fls, c-lit, c-nlit, c-or, c-tru, forms, leftW, tagW, wordOf}
 use Rattle.members.proofs.MemberLaws.{canon-parts, forms-length, member, word-left, word-tag}
 use Rattle.lean.proofs.LeanLaws.{form-word}
-use Rattle.tableau.specs.Tables.{ExPlaced, Leans, Table, argAt, form, leanForms, tagAt}
+use Rattle.truth.specs.Tables.{ExPlaced, Leans, Table, argAt, form, leanForms, tagAt}
 use Rattle.tableau.specs.Matches.{Matches}
 use Rattle.reader.specs.declared.Reading.{Reading}
 use Rattle.reader.specs.Reader as R

@@ -17,7 +17,7 @@ use Rattle.ctl.proofs.ListLaws.{below-out, keep-same}
 use Rattle.layout.specs.Layout.{kinds}
 use Rattle.sheet.specs.Refusal.{readRefusal}
 use Rattle.sheet.specs.Reading.{formulas, globalsOf}
-use Rattle.tableau.specs.Tables.{form}
+use Rattle.truth.specs.Tables.{form}
 use Rattle.tableau.specs.Matches.{Matches}
 use Rattle.reader.specs.declared.Reading.{Reading}
 use Rattle.reader.specs.Reader.{Says}

@@ -20,16 +20,16 @@ use Rattle.wordset.proofs.BelowLaws.{same-or, all-elim, all-intro, any-ext, any
 use Rattle.wordset.specs.Below.{allBelow, anyBelow}
 use Rattle.wordset.specs.Words.{member}
 use Rattle.members.specs.Members.{formBy, forms}
-use Rattle.tableau.specs.Tables.{argAt, form, leftAt, rightAt, tagAt}
-use Rattle.tableau.specs.Blocks.{has}
-use Rattle.tableau.specs.Truths.{Tr, trueAt}
-use Rattle.tableau.specs.Links.{Lk, asked, asksBy, meets, rowsOf}
-use Rattle.tableau.specs.Families.{Follows, Linked, Next, Ready, listOf, passes}
-use Rattle.tableau.proofs.TestLaws.{to-or}
-use Rattle.tableau.proofs.ListWords.{any-listed, list-in, list-out, some-below, some-in}
-use Rattle.tableau.proofs.MemberLaws.{all-forms, form-tag, tag-of}
-use Rattle.tableau.proofs.ModeLaws.{own-mode}
-use Rattle.tableau.proofs.TruthLaws.{truth-bit}
+use Rattle.truth.specs.Tables.{argAt, form, leftAt, rightAt, tagAt}
+use Rattle.truth.specs.Blocks.{has, listOf}
+use Rattle.truth.specs.Truths.{Tr, trueAt}
+use Rattle.links.specs.Links.{Lk, asked, asksBy, meets, rowsOf}
+use Rattle.tableau.specs.Families.{Follows, Linked, Next, Ready, passes}
+use Rattle.truth.proofs.TestLaws.{to-or}
+use Rattle.truth.proofs.ListWords.{any-listed, list-in, list-out, some-below, some-in}
+use Rattle.truth.proofs.MemberLaws.{all-forms, form-tag, tag-of}
+use Rattle.members.proofs.ModeLaws.{own-mode}
+use Rattle.truth.proofs.TruthLaws.{truth-bit}
 
 -- ---- the modes of an EX or of an EU are asked for
 

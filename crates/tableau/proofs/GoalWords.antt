@@ -10,7 +10,7 @@ use Rattle.wordset.proofs.BelowLaws.{same-or, any-false, least-holds, least-bel
 use Rattle.wordset.specs.Below.{anyBelow, least}
 use Rattle.wordset.specs.Words.{member}
 use Rattle.tableau.specs.declared.goal.Found.the-variants.{At, Nothing}
-use Rattle.tableau.specs.Families.{listOf}
+use Rattle.truth.specs.Blocks.{listOf}
 use Rattle.tableau.specs.Goals.{firstOf}
 
 keep-twice : (P Q : ℕ → Bool) (l : List ℕ) → keep Q (keep P l) ≡ keep (λ t. P t && Q t) l

@@ -19,14 +19,14 @@ use Rattle.wordset.proofs.PackLaws.{packed-ext, packed-held, packed-self, packe
 use Rattle.wordset.specs.Below.{allBelow}
 use Rattle.wordset.specs.Words.{member, packed}
 use Rattle.members.specs.Members.{formBy, forms}
-use Rattle.tableau.specs.Tables.{argAt, form, leftAt, rightAt, tagAt}
-use Rattle.tableau.specs.Blocks.{has}
-use Rattle.tableau.specs.Truths.{Tr, trueAt}
-use Rattle.tableau.specs.Links.{Lk}
-use Rattle.tableau.specs.Families.{Good, Next, Ready, Round, lacks, listOf}
-use Rattle.tableau.proofs.ListWords.{held, list-elem}
-use Rattle.tableau.proofs.MemberLaws.{all-forms, form-tag, tag-of}
-use Rattle.tableau.proofs.TruthLaws.{truth-bit}
+use Rattle.truth.specs.Tables.{argAt, form, leftAt, rightAt, tagAt}
+use Rattle.truth.specs.Blocks.{has, listOf}
+use Rattle.truth.specs.Truths.{Tr, trueAt}
+use Rattle.links.specs.Links.{Lk}
+use Rattle.tableau.specs.Families.{Good, Next, Ready, Round, lacks}
+use Rattle.truth.proofs.ListWords.{held, list-elem}
+use Rattle.truth.proofs.MemberLaws.{all-forms, form-tag, tag-of}
+use Rattle.truth.proofs.TruthLaws.{truth-bit}
 
 -- ---- one member: those of dst stay that do not lack what it asks for
 

@@ -20,10 +20,11 @@ use Rattle.wordset.proofs.WordLaws.{drop-filled, length-filled}
 use Rattle.wordset.specs.Below.{allBelow}
 use Rattle.wordset.specs.Words.{member, packed}
 use Rattle.members.specs.Members.{forms}
-use Rattle.tableau.specs.Truths.{Tr}
-use Rattle.tableau.specs.Links.{Lk}
-use Rattle.tableau.specs.Families.{Round, Rounds, Survivors, listOf}
-use Rattle.tableau.proofs.ListWords.{list-ascend, list-elem, list-few, list-out, list-packed}
+use Rattle.truth.specs.Truths.{Tr}
+use Rattle.links.specs.Links.{Lk}
+use Rattle.tableau.specs.Families.{Round, Rounds, Survivors}
+use Rattle.truth.specs.Blocks.{listOf}
+use Rattle.truth.proofs.ListWords.{list-ascend, list-elem, list-few, list-out, list-packed}
 use Rattle.tableau.proofs.Rounding.{Fails}
 
 -- ---- rounds

@@ -23,14 +23,14 @@ use Rattle.wordset.proofs.WordLaws.{member-past}
 use Rattle.wordset.specs.Below.{anyBelow, countBelow, least}
 use Rattle.wordset.specs.Words.{join, member}
 use Rattle.members.specs.Members.{forms}
-use Rattle.tableau.specs.Tables.{form, leftAt, rightAt, tagAt}
-use Rattle.tableau.specs.Blocks.{has}
-use Rattle.tableau.specs.Truths.{Tr, trueAt}
-use Rattle.tableau.specs.Families.{Follows, Good, Linked, Next, Ready, listOf, passes}
-use Rattle.tableau.proofs.ListWords.{join-member, list-in, list-out}
-use Rattle.tableau.proofs.MemberLaws.{form-tag, left-in, right-in}
-use Rattle.tableau.proofs.TruthLaws.{truth-bit}
-use Rattle.tableau.proofs.Sifting.{least-in}
+use Rattle.truth.specs.Tables.{form, leftAt, rightAt, tagAt}
+use Rattle.truth.specs.Blocks.{has, listOf}
+use Rattle.truth.specs.Truths.{Tr, trueAt}
+use Rattle.tableau.specs.Families.{Follows, Good, Linked, Next, Ready, passes}
+use Rattle.truth.proofs.ListWords.{join-member, list-in, list-out}
+use Rattle.truth.proofs.MemberLaws.{form-tag, left-in, right-in}
+use Rattle.truth.proofs.TruthLaws.{truth-bit}
+use Rattle.truth.proofs.Sifting.{least-in}
 
 -- ---- what is asked against a set is had against a wider one
 

@@ -22,12 +22,12 @@ use Rattle.wordset.specs.Answers.{Answers}
 use Rattle.wordset.specs.Below.{allBelow, anyBelow, least}
 use Rattle.wordset.specs.Word.{bit}
 use Rattle.wordset.specs.Words.{member, minus, packed}
-use Rattle.tableau.specs.Blocks.{has}
-use Rattle.tableau.specs.Links.{meets, meetsAt}
-use Rattle.tableau.proofs.BlockLaws.{block-at}
-use Rattle.tableau.proofs.ListWords.{held, minus-member}
-use Rattle.tableau.proofs.ModeLaws.{mode-bit}
-use Rattle.tableau.proofs.Sifting.{less, less-bit, less-lt, lowest}
+use Rattle.truth.specs.Blocks.{has}
+use Rattle.links.specs.Links.{meets, meetsAt}
+use Rattle.truth.proofs.BlockLaws.{block-at}
+use Rattle.truth.proofs.ListWords.{held, minus-member}
+use Rattle.members.proofs.ModeLaws.{mode-bit}
+use Rattle.truth.proofs.Sifting.{less, less-bit, less-lt, lowest}
 
 pub idle : (a b : Bool) → true ≡ b → a ≡ (a && b)
 idle a b e = sym (and-true a) ∙ ap (λ x. a && x) e

@@ -13,12 +13,13 @@ use Rattle.wordset.specs.Below.{countBelow}
 use Rattle.wordset.specs.Words.{member, packed}
 use Rattle.tableau.specs.declared.table.Counts.{Counts}
 use Rattle.members.specs.Members.{forms}
-use Rattle.tableau.specs.Truths.{Tr}
-use Rattle.tableau.specs.Links.{Lk}
-use Rattle.tableau.specs.Families.{Rounds, Survivors, listOf}
-use Rattle.tableau.specs.Starts.{obeysBy, startList}
+use Rattle.truth.specs.Truths.{Tr}
+use Rattle.links.specs.Links.{Lk}
+use Rattle.tableau.specs.Families.{Rounds, Survivors}
+use Rattle.truth.specs.Blocks.{listOf}
+use Rattle.start.specs.Starts.{obeysBy, startList}
 use Rattle.tableau.specs.Tabled.{Tabled}
-use Rattle.tableau.proofs.ListWords.{count-list, held, list-packed}
+use Rattle.truth.proofs.ListWords.{count-list, held, list-packed}
 
 -- ---- survivors
 

@@ -28,14 +28,15 @@ use Rattle.wordset.specs.Words.{member, packed}
 use Rattle.tableau.specs.declared.goal.Found.{Found}
 use Rattle.tableau.specs.declared.table.Counts.{Counts}
 use Rattle.members.specs.Members.{forms}
-use Rattle.tableau.specs.Tables.{form, leanForms}
-use Rattle.tableau.specs.Truths.{Tr, trueAt}
-use Rattle.tableau.specs.Families.{Rounds, Survivors, listOf}
-use Rattle.tableau.specs.Starts.{fitsSet, makesAll, nameSet, obeysBy, placeFits, startList}
+use Rattle.truth.specs.Tables.{form, leanForms}
+use Rattle.truth.specs.Truths.{Tr, trueAt}
+use Rattle.tableau.specs.Families.{Rounds, Survivors}
+use Rattle.truth.specs.Blocks.{listOf}
+use Rattle.start.specs.Starts.{fitsSet, makesAll, nameSet, obeysBy, placeFits, startList}
 use Rattle.tableau.specs.Goals.{firstOf}
 use Rattle.tableau.specs.Tabled.{Tabled}
 use Rattle.tableau.specs.Matches.{Matches}
-use Rattle.tableau.proofs.ListWords.{all-front, all-list, held}
+use Rattle.truth.proofs.ListWords.{all-front, all-list, held}
 use Rattle.tableau.proofs.TableWords.{start-ascend, start-below, survivors-list}
 
 -- ---- the other places of a type as a number

@@ -1,21 +1,16 @@
 -- Families of types as words, and what a member asks of a type against a set. Assumes nothing.
 use mathlib.Core.Bool.{Bool, true, not, _&&_}
 use mathlib.Core.List.{List}
-use Prim.Native.Nat.{ℕ, _*_, _≤_}
+use Prim.Native.Nat.{ℕ, _≤_}
 use Rattle.ctl.specs.Elimination as E
 use Rattle.ctl.specs.ClosedFamily.{linked}
 use Rattle.ctl.specs.Formula.{Form, tru, fls, lit, nlit, and, or, ex, ax, eu, au, er, ar}
-use Rattle.ctl.specs.Lists.{anyOf, allOf, keep, below, elem, imp}
+use Rattle.ctl.specs.Lists.{anyOf, allOf, elem, imp}
 use Rattle.ctl.specs.Modes.{single}
-use Rattle.wordset.specs.Words.{member}
 use Rattle.members.specs.Members.{forms}
-use Rattle.tableau.specs.Tables.{ExPlaced, Leans, Table}
-use Rattle.tableau.specs.Truths.{Tr, Truths}
-use Rattle.tableau.specs.Links.{Lk, Rows}
-
--- the numbers that are members of the first w words, ascending
-unfoldable pub listOf : ℕ → List ℕ → List ℕ
-listOf w ws = keep (member ws) (below (w * 64))
+use Rattle.truth.specs.Tables.{ExPlaced, Leans, Table}
+use Rattle.truth.specs.Truths.{Tr, Truths}
+use Rattle.links.specs.Links.{Lk, Rows}
 
 -- what the elimination goes by
 pub record Ready (ms ln : List ℕ) (w : ℕ) (tw lw : List ℕ) : Type 0 where

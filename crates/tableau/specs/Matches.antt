@@ -6,7 +6,7 @@ use Rattle.ctl.specs.Lists.{_∈_}
 use Rattle.ctl.specs.Formula.{Form}
 use Rattle.ctl.specs.Tableau.{Tableau, namePlaces, otherPlaces}
 use Rattle.members.specs.Members.{forms}
-use Rattle.tableau.specs.Tables.{form, leanForms}
+use Rattle.truth.specs.Tables.{form, leanForms}
 
 -- The table has the closure's members, in any order. The lean, the globals and the places of names and of others are the tableau's
 pub record Matches (S : Tableau) (ms ln globals names others : List ℕ) : Type 0 where

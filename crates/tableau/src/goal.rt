@@ -3,8 +3,8 @@ ghost use mathlib.Core.Path.{_≡_};
 ghost use Prim.Native.Nat.{_≤_, _<_};
 ghost use lib.ListN.{length};
 ghost use Rattle.ctl.specs.Lists.{keep};
-ghost use Rattle.tableau.specs.Truths.{Truths, trueAt};
-ghost use Rattle.tableau.specs.Families.{listOf};
+ghost use Rattle.truth.specs.Truths.{Truths, trueAt};
+ghost use Rattle.truth.specs.Blocks.{listOf};
 ghost use Rattle.tableau.specs.Goals.{firstOf};
 
 pub enum Found {

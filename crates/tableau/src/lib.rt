@@ -4,8 +4,5 @@
 // nothing.
 pub mod eliminate;
 pub mod goal;
-pub mod links;
-pub mod members;
-pub mod start;
+mod reach;
 pub mod table;
-pub mod truth;

@@ -1,10 +1,10 @@
 // One naming: its start types, the rounds, and the survivors. Assumes nothing.
 use crate::eliminate::settle;
-use crate::start::start_words;
+use start::start_words;
 ghost use Prim.Native.Nat.{ℕ, _≤_, _<_};
 ghost use lib.ListN.{length, getD};
 ghost use Rattle.tableau.specs.Families.{Ready, Rounds, Survivors};
-ghost use Rattle.tableau.specs.Starts.{startList};
+ghost use Rattle.start.specs.Starts.{startList};
 ghost use Rattle.tableau.specs.Tabled.{Tabled};
 
 // How many start types a naming has, how many types survive, and after how many rounds.

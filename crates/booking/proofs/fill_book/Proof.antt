@@ -5,7 +5,7 @@ use native.Mathlib.Omega.{arith}
 use borrow.Author.Needs.{needs}
 use Rattle.ctl.specs.Lists.{elem}
 use Rattle.tableau.specs.Families.{Survivors}
-use Rattle.tableau.specs.Starts.{startList}
+use Rattle.start.specs.Starts.{startList}
 use Rattle.naming.proofs.NextLaws.{start-number, start-count, in-hand, none-left, next-number, next-count, next-less}
 use Rattle.booking.proofs.Tails.{tail-length}
 use Rattle.booking.proofs.BookLaws.{Written, written-start, written-moved, written-room, written-next, written-end}

@@ -6,7 +6,7 @@ use borrow.Author.Needs.{needs}
 use Rattle.wordset.specs.Word.{wordOf}
 use Rattle.wordset.proofs.Filling.{Filling, begins, ends, goes}
 use Rattle.ctl.specs.Evaluator.{sat}
-use Rattle.tableau.specs.Tables.{form}
+use Rattle.truth.specs.Tables.{form}
 use Rattle.snapshot.specs.Store.{ofStore}
 use Rattle.evaluator.proofs.SatLaws.{member-next}
 use Rattle.evaluator.proofs.members.evaluate.Statement.{statement}

@@ -5,10 +5,10 @@ use Prim.Native.Nat.{_+_, _*_, _≤_}
 use native.Mathlib.Omega.{arith}
 use lib.ListN.{length, getD}
 use borrow.Author.Needs.{needs}
-use Rattle.tableau.specs.Links.{asked}
-use Rattle.tableau.proofs.MemberLaws.{left-is}
-use Rattle.tableau.proofs.BlockLaws.{block-fits, tail, tail-room}
-use Rattle.tableau.proofs.ModeLaws.{mode-one, mode-single, mode-wide}
+use Rattle.links.specs.Links.{asked}
+use Rattle.truth.proofs.MemberLaws.{left-is}
+use Rattle.truth.proofs.BlockLaws.{block-fits, tail, tail-room}
+use Rattle.members.proofs.ModeLaws.{mode-one, mode-single, mode-wide}
 use Rattle.tableau.proofs.Asks.{asked-ex, meets-next}
 use Rattle.tableau.proofs.Rounding.{kept-ex, kept-other, kept-until, kept-wide}
 use Rattle.tableau.proofs.eliminate.eliminate_member.Statement.{statement}

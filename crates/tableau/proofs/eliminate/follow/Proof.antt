@@ -8,11 +8,11 @@ use borrow.Author.Needs.{needs}
 use borrow.Author.Tests.{not-true, not-false}
 use Rattle.ctl.specs.Modes.{single}
 use Rattle.wordset.specs.Words.{member}
-use Rattle.tableau.specs.Links.{asked}
-use Rattle.tableau.proofs.MemberLaws.{left-is}
-use Rattle.tableau.proofs.BlockLaws.{block-fits, tail, tail-room}
-use Rattle.tableau.proofs.TruthLaws.{truth-bit}
-use Rattle.tableau.proofs.ModeLaws.{mode-one, mode-wide}
+use Rattle.links.specs.Links.{asked}
+use Rattle.truth.proofs.MemberLaws.{left-is}
+use Rattle.truth.proofs.BlockLaws.{block-fits, tail, tail-room}
+use Rattle.truth.proofs.TruthLaws.{truth-bit}
+use Rattle.members.proofs.ModeLaws.{mode-one, mode-wide}
 use Rattle.tableau.proofs.Asks.{asked-ex, follow-mode, follow-next, follow-none, follow-wide, meets-next}
 use Rattle.tableau.proofs.Stepping.{idle, linked-member}
 use Rattle.tableau.proofs.eliminate.follow.Statement.{statement}

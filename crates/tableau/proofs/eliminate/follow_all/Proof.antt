@@ -6,8 +6,9 @@ use native.Mathlib.Omega.{arith}
 use lib.ListN.{length, getD}
 use borrow.Author.Needs.{needs}
 use Rattle.wordset.specs.Words.{member}
-use Rattle.tableau.specs.Tables.{form}
-use Rattle.tableau.specs.Families.{Follows, listOf}
+use Rattle.truth.specs.Tables.{form}
+use Rattle.tableau.specs.Families.{Follows}
+use Rattle.truth.specs.Blocks.{listOf}
 use Rattle.tableau.proofs.Asks.{all-lean}
 use Rattle.tableau.proofs.Stepping.{Followed, follow-end, follow-on, follow-start}
 use Rattle.tableau.proofs.eliminate.follow_all.Statement.{statement}

@@ -2,7 +2,7 @@
 use mathlib.Core.Path.{_≡_, refl, _∙_}
 use native.Mathlib.Omega.{arith}
 use lib.ListN.{length}
-use Rattle.tableau.specs.Families.{listOf}
+use Rattle.truth.specs.Blocks.{listOf}
 use Rattle.tableau.proofs.Settling.{Before, Families, before-start, fewer, settled, turned}
 use Rattle.tableau.proofs.eliminate.settle.Statement.{statement}
 use Rattle.tableau.proofs.eliminate.settle.Tie as tie

@@ -6,9 +6,9 @@ use native.Mathlib.Omega.{arith}
 use borrow.Author.Needs.{needs}
 use Rattle.wordset.specs.Below.{countBelow}
 use Rattle.wordset.specs.Words.{member}
-use Rattle.tableau.proofs.ListWords.{minus-member, pick-member}
-use Rattle.tableau.proofs.MemberLaws.{left-is, right-is}
-use Rattle.tableau.proofs.BlockLaws.{block-fits}
+use Rattle.truth.proofs.ListWords.{minus-member, pick-member}
+use Rattle.truth.proofs.MemberLaws.{left-is, right-is}
+use Rattle.truth.proofs.BlockLaws.{block-fits}
 use Rattle.tableau.proofs.Spreading.{Spreading, spread-covers, spread-end, spread-less, spread-on, spread-start}
 use Rattle.tableau.proofs.eliminate.spread.Statement.{statement}
 use Rattle.tableau.proofs.eliminate.spread.Tie as tie

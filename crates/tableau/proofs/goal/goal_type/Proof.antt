@@ -11,8 +11,8 @@ use Rattle.wordset.proofs.AnswersLaws.{and-answers, word-answers}
 use Rattle.wordset.proofs.Scanning.{NoneSoFar, none-start, none-on, none-end, least-found}
 use Rattle.wordset.specs.Below.{least}
 use Rattle.wordset.specs.Words.{member}
-use Rattle.tableau.specs.Truths.{trueAt}
-use Rattle.tableau.proofs.BlockLaws.{block-fits}
+use Rattle.truth.specs.Truths.{trueAt}
+use Rattle.truth.proofs.BlockLaws.{block-fits}
 use Rattle.tableau.proofs.GoalWords.{first-found, first-none}
 use Rattle.tableau.proofs.goal.goal_type.Statement.{statement}
 use Rattle.tableau.proofs.goal.goal_type.Tie as tie

@@ -1,0 +1,4 @@
+pub mod Narrowing
+pub mod AskedModes
+pub mod RowPlaces
+pub mod LinkWords

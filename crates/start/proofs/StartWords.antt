@@ -1,0 +1,86 @@
+-- The words of the start types. Assumes nothing.
+use mathlib.Core.Path.{_≡_, refl, sym, ap, _∙_}
+use mathlib.Core.Bool.{true, false, not, _&&_, Bool·beq, _||_}
+use mathlib.Core.List.{List, [], _∷_}
+use Prim.Native.Nat.{ℕ, zero, suc, _+_, _-_, _*_, _/_, _%_, _^_, _≤_, _<_}
+use native.Mathlib.Omega.{arith}
+use lib.Bits.{bitOr}
+use lib.Dec.{eqb, ltb}
+use lib.ListN.{length, getD}
+use lib.Pow.{pow-add, pow-mono, pow-pos}
+use borrow.Author.Tests.{lt-ltb, le-ltb}
+use Rattle.ctl.specs.Lists.{imp}
+use Rattle.ctl.specs.Types.{inType}
+use Rattle.wordset.proofs.BitLaws.{shl-one}
+use Rattle.wordset.specs.Below.{allBelow}
+use Rattle.wordset.specs.Word.{bit}
+use Rattle.wordset.specs.Answers.{Answers}
+use Rattle.wordset.proofs.AnswersLaws.{or-answers}
+use Rattle.start.specs.Starts.{fitsSet, nameSet, placeFits}
+use Rattle.truth.proofs.TestLaws.{same-false, same-true, to-or}
+use Rattle.truth.proofs.BlockLaws.{word-as, word-full, word-none, word-not}
+use Rattle.truth.proofs.PlaceWords.{computed}
+
+-- ---- the types below 2 ^ n
+
+abbrev lows : List ℕ
+lows = 1 ∷ 3 ∷ 15 ∷ 255 ∷ 65535 ∷ 4294967295 ∷ []
+
+checked : allBelow 6 (λ n. ltb (getD lows n 0) (2 ^ 64) && allBelow 64 (λ b. Bool·beq (ltb b (2 ^ n)) (bit (getD lows n 0) b))) ≡ true
+unfolding allBelow bit
+checked = refl
+
+pub low-first : (n k : ℕ) → n < 6 → k ≡ 0 → Answers (λ t. ltb t (2 ^ n)) k (getD lows n 0)
+low-first n k h e =
+    let c = computed (λ n b. ltb b (2 ^ n)) lows 6 checked n h in
+    record { small = c .0; each = λ b l. (let q : k * 64 + b ≡ b = omega arith in ap (λ t. ltb t (2 ^ n)) q ∙ c .1 b l) }
+
+pub low-later : (n k : ℕ) → n < 6 → (k ≡ 0 → ⊥) → Answers (λ t. ltb t (2 ^ n)) k 0
+low-later n k h f = record {
+  small = omega arith;
+  each = λ b l. le-ltb (k * 64 + b) (2 ^ n) (let p : 2 ^ n ≤ 2 ^ 6 = pow-mono (let m : n ≤ 6 = omega arith in m) in omega arith) ∙ word-none {i = k} .each b l;
+}
+
+split : (n : ℕ) → 6 ≤ n → 2 ^ n ≡ 64 * 2 ^ (n - 6)
+split n h = let e : n ≡ 6 + (n - 6) = omega arith in ap (λ j. 2 ^ j) e ∙ pow-add 2 6 (n - 6)
+
+pub low-full : (n k : ℕ) → 6 ≤ n → n ≤ 60 → k < (1 * 2 ^ (n - 6)) % 2 ^ 64 → Answers (λ t. ltb t (2 ^ n)) k 18446744073709551615
+low-full n k h g l =
+    let e = shl-one (n - 6) (let m : n - 6 < 64 = omega arith in m) in
+    let s = split n h in
+    record { small = omega arith; each = λ b m. lt-ltb (k * 64 + b) (2 ^ n) (omega arith) ∙ word-full {i = k} .each b m }
+
+pub low-none : (n k : ℕ) → 6 ≤ n → n ≤ 60 → (1 * 2 ^ (n - 6)) % 2 ^ 64 ≤ k → Answers (λ t. ltb t (2 ^ n)) k 0
+low-none n k h g l =
+    let e = shl-one (n - 6) (let m : n - 6 < 64 = omega arith in m) in
+    let s = split n h in
+    record { small = omega arith; each = λ b m. le-ltb (k * 64 + b) (2 ^ n) (omega arith) ∙ word-none {i = k} .each b m }
+
+-- ---- places that fit
+
+module _ (others : List ℕ) (d q k x : ℕ) where
+  pub fit-yes : eqb (d / 2 ^ q % 2) 1 ≡ true → Answers (λ t. inType t (getD others q 0)) k x → Answers (λ t. placeFits others d t q) k x
+  fit-yes e f = word-as (λ t. sym (ap (λ b. Bool·beq b (inType t (getD others q 0))) e ∙ same-true (inType t (getD others q 0)))) f
+
+  pub fit-no : eqb (d / 2 ^ q % 2) 1 ≡ false → Answers (λ t. inType t (getD others q 0)) k x → Answers (λ t. placeFits others d t q) k ((2 ^ 64 - 1) - x)
+  fit-no e f = word-as (λ t. sym (ap (λ b. Bool·beq b (inType t (getD others q 0))) e ∙ same-false (inType t (getD others q 0)))) (word-not f)
+
+-- ---- one name
+
+pub small-shift : (n i : ℕ) → n ≤ 30 → i < 2 → n * i ≤ 30
+small-shift n zero h l = omega arith
+small-shift n (suc zero) h l = omega arith
+small-shift n (suc (suc i)) h l = absurd (omega arith)
+
+pub mask-is : (n : ℕ) → n ≤ 30 → (1 * 2 ^ n) % 2 ^ 64 ≡ 2 ^ n
+mask-is n h = shl-one n (omega arith)
+
+pub mask-pos : (n : ℕ) → n ≤ 30 → 0 < (1 * 2 ^ n) % 2 ^ 64
+mask-pos n h = let e = mask-is n h in let p = pow-pos n in omega arith
+
+module _ (names others : List ℕ) (r i k : ℕ) (h : length others ≤ 30) where
+  pub name-word : (p s : ℕ) → Answers (λ t. inType t (getD names i 0)) k p → Answers (fitsSet others (r / 2 ^ (length others * i) % ((1 * 2 ^ length others) % 2 ^ 64))) k s
+      → Answers (λ t. imp (inType t (getD names i 0)) (fitsSet others (nameSet others r i) t)) k (bitOr ((2 ^ 64 - 1) - p) s)
+  name-word p s f g =
+      word-as (λ t. ap (λ m. not (inType t (getD names i 0)) || fitsSet others (r / 2 ^ (length others * i) % m) t) (mask-is (length others) h)
+      ∙ sym (to-or (inType t (getD names i 0)) (fitsSet others (nameSet others r i) t))) (or-answers (word-not f) g)

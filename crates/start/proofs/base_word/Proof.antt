@@ -1,0 +1,87 @@
+-- `base_word` meets its contract: the word answers whether the first i globals are true. Assumes nothing.
+use Prim.Native.Nat.{_+_, _*_, _-_, _<_}
+use native.Mathlib.Omega.{arith}
+use lib.ListN.{length, getD}
+use borrow.Author.Needs.{needs}
+use Rattle.wordset.proofs.AnswersLaws.{and-answers}
+use Rattle.truth.specs.Truths.{trueAt}
+use Rattle.start.specs.Starts.{makesAll}
+use Rattle.truth.proofs.BlockLaws.{slot}
+use Rattle.truth.proofs.Folds.{Met, meet-end, meet-on, meet-start}
+use Rattle.start.proofs.base_word.Statement.{statement}
+use Rattle.start.proofs.base_word.Tie as tie
+
+abbrev Inv-loop : tie.InvT-loop
+Inv-loop ms ln tw w globals k acc₀ i₀ acc i = Met (λ j t. trueAt ms ln (getD globals j 0) t) (length globals) i k acc
+
+abbrev μ-loop : tie.MeasureT-loop
+μ-loop ms ln tw w globals k acc₀ i₀ acc i = length globals - i
+
+loop-holds : tie.Need-loop-holds Inv-loop μ-loop
+loop-holds c = meet-start
+
+shared-slice-read-g : tie.Need-shared-slice-read-g Inv-loop μ-loop
+shared-slice-read-g c = search needs
+
+cast-g : tie.Need-cast-g Inv-loop μ-loop
+cast-g c = omega (arith, c .shared-slice-known5 .given (c .before .before .loop .i))
+
+abbrev start : tie.After-shared-slice-known5 Inv-loop μ-loop → tie.Start Inv-loop μ-loop
+start c = c .before .before .before .before .before .before .before
+
+g-at : (c : tie.After-shared-slice-known5 Inv-loop μ-loop) → getD (start c .args .globals .now) (c .before .before .loop .i) 0 * start c .args .w + start c .args .k < length (start c .args .tw .now)
+g-at c =
+    let b7 = c .before .before .before .before .before .before .before in
+    (slot _ _ _ _ _ (b7 .pre .1 .1 _ (c .before .loop-test .taken)) (b7 .pre .0 .room) (b7 .pre .1 .0 .0))
+
+mul-acc : tie.Need-mul-acc Inv-loop μ-loop
+mul-acc c = omega (arith, g-at c)
+
+add-acc : tie.Need-add-acc Inv-loop μ-loop
+add-acc c = omega (arith, g-at c)
+
+mul-acc-2 : tie.Need-mul-acc-2 Inv-loop μ-loop
+mul-acc-2 c = omega (arith, g-at c)
+
+shared-slice-read-acc : tie.Need-shared-slice-read-acc Inv-loop μ-loop
+shared-slice-read-acc c = g-at (c .before)
+
+add-i : tie.Need-add-i Inv-loop μ-loop
+add-i c = search needs
+
+loop-less : tie.Need-loop-less Inv-loop μ-loop
+loop-less c = search needs
+
+loop-again : tie.Need-loop-again Inv-loop μ-loop
+loop-again c =
+    let b2 = c .before .before in
+    let b8 = b2 .before .before .before .before .before .before in
+    meet-on (c .before .before .before .loop .inv) (b2 .loop-test .taken) (b8 .pre .0 .words _ (b8 .pre .1 .1 _ (b2 .loop-test .taken)) _ (b8 .pre .1 .0 .0))
+
+low-word-requires : tie.Need-low-word-requires Inv-loop μ-loop
+low-word-requires c κs =
+    let b6 = c .before .before .before .before .before .before in
+    b6 .pre .1 .0 .1
+
+returns : tie.Need-returns Inv-loop μ-loop
+unfolding makesAll
+returns c = and-answers (c .low-word .ensures) (meet-end (c .before .before .loop .inv) (c .before .loop-test .left))
+
+pub base-word-spec : {M : Type 1} → statement M
+base-word-spec =
+    tie.close
+    (tie.spec
+    Inv-loop
+    μ-loop
+    loop-holds
+    shared-slice-read-g
+    cast-g
+    mul-acc
+    add-acc
+    mul-acc-2
+    shared-slice-read-acc
+    add-i
+    loop-less
+    loop-again
+    low-word-requires
+    returns)

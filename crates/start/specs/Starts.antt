@@ -1,0 +1,36 @@
+-- Start types, by words. Assumes nothing.
+use mathlib.Core.Bool.{Bool, Bool·beq, _&&_}
+use mathlib.Core.List.{List}
+use Prim.Native.Nat.{ℕ, _*_, _/_, _%_, _^_}
+use lib.Dec.{ltb}
+use lib.ListN.{length, getD}
+use Rattle.ctl.specs.Lists.{imp, keep, below}
+use Rattle.ctl.specs.Numbers.{hasBit}
+use Rattle.ctl.specs.Types.{inType}
+use Rattle.wordset.specs.Below.{allBelow}
+use Rattle.wordset.specs.Words.{member}
+use Rattle.truth.specs.Truths.{trueAt}
+
+-- digit i of r, in digits of as many bits as there are other places
+abbrev pub nameSet : List ℕ → ℕ → ℕ → ℕ
+nameSet others r i = r / 2 ^ (length others * i) % 2 ^ length others
+
+-- place q of the others, in a type, is bit q of the set d
+abbrev pub placeFits : List ℕ → ℕ → ℕ → ℕ → Bool
+placeFits others d t q = Bool·beq (hasBit d q) (inType t (getD others q 0))
+
+-- the other places of a type are the set d
+unfoldable pub fitsSet : List ℕ → ℕ → ℕ → Bool
+fitsSet others d t = allBelow (length others) (placeFits others d t)
+
+-- a type obeys a naming
+unfoldable pub obeysBy : List ℕ → List ℕ → ℕ → ℕ → Bool
+obeysBy names others r t = allBelow (length names) (λ i. imp (inType t (getD names i 0)) (fitsSet others (nameSet others r i) t))
+
+-- a type below 2 ^ n that makes all globals true
+unfoldable pub makesAll : List ℕ → List ℕ → List ℕ → ℕ → Bool
+makesAll ms ln globals t = ltb t (2 ^ length ln) && allBelow (length globals) (λ i. trueAt ms ln (getD globals i 0) t)
+
+-- the start types of naming r, ascending
+unfoldable pub startList : ℕ → List ℕ → List ℕ → List ℕ → ℕ → List ℕ
+startList w base names others r = keep (λ t. member base t && obeysBy names others r t) (below (w * 64))

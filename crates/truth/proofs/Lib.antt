@@ -1,0 +1,9 @@
+pub mod TestLaws
+pub mod ListWords
+pub mod MemberLaws
+pub mod BlockLaws
+pub mod Folds
+pub mod PlaceWords
+pub mod TruthLaws
+pub mod TruthWords
+pub mod Sifting
