@@ -1,14 +1,14 @@
 // The row of a snapshot: at which nodes the goal and the globals hold. Every closure member is evaluated once, as a word of nodes. Throughout,
 // out is the store of a snapshot with n nodes and ws the table of closure members. Assumes nothing.
 mod edges;
-mod members;
 mod nodes;
 mod operators;
+mod values;
 
-use crate::members::evaluate;
 use crate::nodes::full;
 use crate::nodes::has;
 use crate::nodes::set_at;
+use crate::values::evaluate;
 ghost use mathlib.Core.Path.{_≡_};
 ghost use mathlib.Core.Bool.{cond};
 ghost use mathlib.Core.List.{_++_, map};

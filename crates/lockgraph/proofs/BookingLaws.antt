@@ -11,8 +11,9 @@ use Rattle.reader.specs.Reader.{refusalOf}
 use Rattle.frame.specs.SetUp.{SetUp}
 use Rattle.frame.specs.declared.Setup.{Setup}
 use Rattle.lockgraph.specs.declared.books.BookAnswer.the-variants.{Done, Refused}
-use Rattle.lockgraph.specs.Outcomes.{BookIs, bookAnswer, bookRefusal, bookStore, namingsIn, storeRefusal, wordsIn}
-use Rattle.lockgraph.proofs.Accepted.{few-namings, few-words, namings-are, not-refused, words-are}
+use Rattle.lockgraph.specs.Outcomes.{BookIs, bookAnswer, bookRefusal, bookStore, storeRefusal}
+use Rattle.fitted.specs.Accepted.{namingsIn, wordsIn}
+use Rattle.fitted.proofs.AcceptedLaws.{few-namings, few-words, namings-are, not-refused, words-are}
 use Rattle.lockgraph.proofs.RefusalLaws.{else-first, else-next, refused-case}
 
 -- a refusal leaves the store alone

@@ -26,9 +26,10 @@ use Rattle.lockgraph.specs.declared.tables.TableAnswer.{TableAnswer}
 use Rattle.lockgraph.specs.declared.tables.TableAnswer.the-variants as Table
 use Rattle.lockgraph.specs.declared.verdicts.VerdictAnswer.{VerdictAnswer}
 use Rattle.lockgraph.specs.declared.verdicts.VerdictAnswer.the-variants as Judging
-use Rattle.lockgraph.specs.Outcomes.{TableIs, holding, tableAnswer, tableRefusal, tableStore, verdictAnswer, verdictBy, verdictIn, verdictOf, wordsIn}
+use Rattle.lockgraph.specs.Outcomes.{TableIs, tableAnswer, tableRefusal, tableStore, verdictAnswer, verdictBy, verdictOf}
+use Rattle.fitted.specs.Accepted.{holding, verdictIn, wordsIn}
 use Rattle.lockgraph.specs.Demands.{StandsByClosed, TableDemand2, TableDemand3, Tells, VerdictDemand2, VerdictDemand3, WholeClaim, tells-open, tells-unsatisfiable}
-use Rattle.lockgraph.proofs.Accepted.{few-words, types-within, words-are}
+use Rattle.fitted.proofs.AcceptedLaws.{few-words, types-within, words-are}
 use Rattle.lockgraph.proofs.RefusalLaws.{table-none}
 
 -- ---- how wide an accepted sheet is

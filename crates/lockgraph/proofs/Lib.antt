@@ -1,4 +1,3 @@
-pub mod Accepted
 pub mod RefusalLaws
 pub mod TableLaws
 pub mod BookingLaws
@@ -7,4 +6,3 @@ pub mod VerdictLaws
 pub mod ListingLaws
 pub mod DemandLaws
 pub mod Halves
-pub mod Graphs

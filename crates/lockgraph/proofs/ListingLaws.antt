@@ -13,7 +13,8 @@ use Rattle.listing.specs.Listed.{EachOnce, Listed}
 use Rattle.listing.proofs.ListedLaws.{ascending-once, listed-front, listed-rest}
 use Rattle.reader.specs.Reader.{refusalOf}
 use Rattle.lockgraph.specs.declared.lists.ListAnswer.the-variants.{Done, Refused}
-use Rattle.lockgraph.specs.Outcomes.{ListIs, listAnswer, listRefusal, namingRefusal, namingsIn, orElse, storeRefusal, survivorsIn}
+use Rattle.lockgraph.specs.Outcomes.{ListIs, listAnswer, listRefusal, namingRefusal, orElse, storeRefusal}
+use Rattle.fitted.specs.Accepted.{namingsIn, survivorsIn}
 use Rattle.lockgraph.proofs.RefusalLaws.{else-first, else-next, else-none, refused-case}
 
 -- a refusal leaves the store alone

@@ -10,8 +10,9 @@ use Rattle.wordset.proofs.BelowLaws.{lt-or-le}
 use Rattle.reader.specs.Reader.{refusalOf}
 use Rattle.frame.specs.SetUp.{SetUp}
 use Rattle.frame.specs.declared.Setup.{Setup}
-use Rattle.lockgraph.specs.Outcomes.{namingRefusal, namingsIn, orElse, storeRefusal, tableRefusal}
-use Rattle.lockgraph.proofs.Accepted.{namings-are}
+use Rattle.lockgraph.specs.Outcomes.{namingRefusal, orElse, storeRefusal, tableRefusal}
+use Rattle.fitted.specs.Accepted.{namingsIn}
+use Rattle.fitted.proofs.AcceptedLaws.{namings-are}
 
 -- ---- a number, or the next
 

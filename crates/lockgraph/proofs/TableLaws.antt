@@ -11,7 +11,8 @@ use Rattle.tableau.specs.declared.table.Counts.{Counts}
 use Rattle.prepare.specs.Prepared.{tableauIn}
 use Rattle.lockgraph.specs.declared.tables.TableAnswer.{TableAnswer}
 use Rattle.lockgraph.specs.declared.tables.TableAnswer.the-variants.{Done, Refused}
-use Rattle.lockgraph.specs.Outcomes.{TableIs, TabledIn, holding, partOf, placeOf, tableAnswer, tableRefusal, tableStore, wordsIn}
+use Rattle.lockgraph.specs.Outcomes.{TableIs, partOf, placeOf, tableAnswer, tableRefusal, tableStore}
+use Rattle.fitted.specs.Accepted.{TabledIn, holding, wordsIn}
 use Rattle.lockgraph.proofs.RefusalLaws.{refused-case}
 
 module _ (s : List ℕ) (r : ℕ) where

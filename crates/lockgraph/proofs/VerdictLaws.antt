@@ -9,8 +9,9 @@ use Rattle.frame.specs.SetUp.{SetUp}
 use Rattle.frame.specs.declared.Setup.{Setup}
 use Rattle.lockgraph.specs.declared.verdicts.VerdictAnswer.{VerdictAnswer}
 use Rattle.lockgraph.specs.declared.verdicts.VerdictAnswer.the-variants.{Refused}
-use Rattle.lockgraph.specs.Outcomes.{verdictAnswer, verdictBy, verdictIn, verdictOf}
-use Rattle.lockgraph.proofs.Accepted.{not-refused}
+use Rattle.lockgraph.specs.Outcomes.{verdictAnswer, verdictBy, verdictOf}
+use Rattle.fitted.specs.Accepted.{verdictIn}
+use Rattle.fitted.proofs.AcceptedLaws.{not-refused}
 use Rattle.lockgraph.proofs.RefusalLaws.{refused-case}
 
 module _ {s : List ℕ} {u : Setup} (x : SetUp s u) where

@@ -29,7 +29,8 @@ use Rattle.lockgraph.specs.declared.tables.TableAnswer.{TableAnswer}
 use Rattle.lockgraph.specs.declared.tables.TableAnswer.the-variants as Table
 use Rattle.lockgraph.specs.declared.verdicts.VerdictAnswer.{VerdictAnswer}
 use Rattle.lockgraph.specs.declared.verdicts.VerdictAnswer.the-variants as Judging
-use Rattle.lockgraph.specs.Outcomes.{entriesIn, namingsIn, snapshotRead}
+use Rattle.lockgraph.specs.Outcomes.{entriesIn, snapshotRead}
+use Rattle.fitted.specs.Accepted.{namingsIn}
 
 -- ---- Demand 2
 

@@ -2,23 +2,19 @@
 use mathlib.Core.Path.{_≡_}
 use mathlib.Core.Bool.{cond}
 use mathlib.Core.List.{List, [], _++_, map}
-use Prim.Native.Nat.{ℕ, zero, suc, _*_, _/_, _%_, _^_, max}
+use Prim.Native.Nat.{ℕ, zero, suc, _*_, _%_}
 use lib.Dec.{eqb, ltb}
 use lib.ListN.{length, take, drop, replicate}
-use Rattle.ctl.specs.Lists.{elem}
 use Rattle.ctl.specs.Positive.{positive}
-use Rattle.ctl.specs.Tableau.{namings, startTypes}
+use Rattle.ctl.specs.Tableau.{startTypes}
 use Rattle.ctl.specs.Verdict as Ctl
-use Rattle.ctl.specs.Verdict.{roundsOf, survivingTypes}
-use Rattle.wordset.specs.Words.{packed}
+use Rattle.ctl.specs.Verdict.{roundsOf}
 use Rattle.layout.specs.Layout.{kinds, lineOf}
 use Rattle.sheet.specs.Reading.{formulas, globalsOf, goalOf}
 use Rattle.reader.specs.Reader.{refusalOf}
-use Rattle.tableau.specs.Tabled.{Tabled}
-use Rattle.tableau.specs.declared.table.Counts.{Counts}
 use Rattle.prepare.specs.Prepared.{tableauIn}
-use Rattle.booking.specs.Booked.{tablesBy}
 use Rattle.evaluator.specs.Rows.{rowOf}
+use Rattle.fitted.specs.Accepted.{bookIn, holding, namingsIn, survivorsIn, verdictIn, wordsIn}
 use Rattle.listing.specs.Listed.{EachOnce}
 use Rattle.snapshot.specs.Read.{lineStore, readSnapshot}
 use Rattle.snapshot.specs.Store.{ofStore}
@@ -34,24 +30,6 @@ use Rattle.lockgraph.specs.declared.snapshots.SnapshotAnswer.{SnapshotAn
 use Rattle.lockgraph.specs.declared.snapshots.SnapshotAnswer.the-variants as Judged
 use Rattle.lockgraph.specs.declared.verdicts.VerdictAnswer.{VerdictAnswer}
 use Rattle.lockgraph.specs.declared.verdicts.VerdictAnswer.the-variants as Judging
-
--- ---- what an accepted sheet has
-
--- document 01's W: how many words hold one bit for each type, 1, 2 or 4
-unfoldable pub wordsIn : List ℕ → ℕ
-wordsIn s = max 1 (2 ^ length (tableauIn s .ln) / 64)
-
-abbrev pub namingsIn : List ℕ → ℕ
-namingsIn s = namings (tableauIn s)
-
--- the surviving types (document 01's standing types) under naming r
-abbrev pub survivorsIn : List ℕ → ℕ → List ℕ
-survivorsIn s r = survivingTypes (tableauIn s) r
-
--- a store with them in its first W words, type j as bit j mod 64 of word j div 64, and its later words as they were
-unfoldable pub holding : List ℕ → ℕ → List ℕ → List ℕ
-unfolding wordsIn
-holding s r d = packed (wordsIn s) (λ t. elem t (survivorsIn s r)) d
 
 -- ---- refusals: the lowest number that applies
 
@@ -88,10 +66,6 @@ abbrev pub tableStore : List ℕ → ℕ → ℕ → List ℕ → List ℕ
 tableStore s r zero d = holding s r d
 tableStore s r (suc k) d = d
 
--- the counts and both stores, where there is no refusal
-abbrev pub TabledIn : List ℕ → ℕ → List ℕ → List ℕ → List ℕ → List ℕ → Counts → Type 0
-TabledIn s r = Tabled (startTypes (tableauIn s) r) (survivorsIn s r) (roundsOf (tableauIn s) r) (wordsIn s)
-
 pub record TableIs (s : List ℕ) (r : ℕ) (first second : List ℕ) (o : TableAnswer) (first′ second′ : List ℕ) : Type 0 where
   pub answer : o ≡ tableAnswer s r (tableRefusal s r (length first) (length second))
   pub first-holds : first′ ≡ tableStore s r (tableRefusal s r (length first) (length second)) first
@@ -114,9 +88,9 @@ abbrev pub bookAnswer : List ℕ → ℕ → BookAnswer
 bookAnswer s zero = Book.Done (namingsIn s) (wordsIn s)
 bookAnswer s (suc k) = Book.Refused (suc k)
 
--- the store afterwards: the words of all namings one after the other, so naming r's at word r × W, and the rest as it was
+-- the store afterwards, where the refusal is k
 abbrev pub bookStore : List ℕ → ℕ → List ℕ → List ℕ
-bookStore s zero d = tablesBy (wordsIn s) (λ r t. elem t (survivorsIn s r)) (namingsIn s) ++ drop (namingsIn s * wordsIn s) d
+bookStore s zero d = bookIn s d
 bookStore s (suc k) d = d
 
 pub record BookIs (s d : List ℕ) (o : BookAnswer) (d′ : List ℕ) : Type 0 where
@@ -137,10 +111,6 @@ pub record ListIs (s : List ℕ) (r : ℕ) (d : List ℕ) (o : ListAnswer) (d′
   pub rest : listRefusal s r (length d) ≡ 0 → drop (length (survivorsIn s r)) d′ ≡ drop (length (survivorsIn s r)) d
 
 -- ---- Verdict
-
--- the verdict of a sheet that is not refused
-unfoldable pub verdictIn : List ℕ → Ctl.Verdict
-verdictIn s = Ctl.verdict (tableauIn s) (positive (goalOf (formulas s)))
 
 -- each case with document 01's values: open with the least naming, then its least goal type; or unsatisfiable
 abbrev pub verdictBy : Ctl.Verdict → VerdictAnswer

@@ -1,5 +1,4 @@
-// The public library: every operation on a sheet's bytes, for any arguments, with its whole outcome. Link words lie in a store that fits their
-// number, since clearing a large store costs more than judging a small sheet. Assumes nothing.
+// The public library: every operation on a sheet's bytes, for any arguments, with its whole outcome. Assumes nothing.
 ghost use mathlib.Core.Path.{_≡_};
 ghost use Prim.Native.Nat.{_+_};
 ghost use Rattle.sheet.specs.Sheet.{goalStart, goalUnder};

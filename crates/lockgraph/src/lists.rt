@@ -1,7 +1,7 @@
 // List: the surviving types under one naming, as numbers in a lent store. Assumes nothing.
 use crate::refusals::naming_refusal;
 use crate::refusals::or_else;
-use crate::tables::fitted_table;
+use fitted::tables::fitted_table;
 ghost use Rattle.lockgraph.specs.Outcomes.{ListIs};
 
 // A refusal by its number, or how many types survive.

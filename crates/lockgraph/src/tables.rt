@@ -2,13 +2,10 @@
 use crate::refusals::naming_refusal;
 use crate::refusals::or_else;
 use crate::refusals::store_refusal;
-use frame::Setup;
-use tableau::table::Counts;
+use fitted::tables::fitted_table;
 ghost use mathlib.Core.Path.{_≡_};
-ghost use Prim.Native.Nat.{_≤_};
-ghost use lib.ListN.{length, take};
-ghost use Rattle.frame.specs.SetUp.{SetUp};
-ghost use Rattle.lockgraph.specs.Outcomes.{TableIs, TabledIn, partOf, placeOf};
+ghost use lib.ListN.{take};
+ghost use Rattle.lockgraph.specs.Outcomes.{TableIs, partOf, placeOf};
 ghost use Rattle.lockgraph.specs.Demands.{TableDemand2, TableDemand3};
 
 // A refusal by its number, or how many words hold the types, how many types there are at the start and at the end, and after how many rounds.
@@ -20,80 +17,6 @@ pub enum TableAnswer {
         left: usize,
         rounds: usize,
     },
-}
-
-// The surviving types under a naming of a sheet that is not refused, in both stores, with the link words in lw.
-fn table_in(
-    sheet: &[u8],
-    u: Setup,
-    naming: u64,
-    first: &mut [u64],
-    second: &mut [u64],
-    lw: &mut [u64],
-) -> Counts
-    requires { ⌜ SetUp (now sheet) u ⌝ }
-    requires { ⌜ (u .refusal ≡ 0) × (4 ≤ length (now first)) × (4 ≤ length (now second)) × (u .links ≤ length (now lw)) ⌝ }
-    ensures { λ c. ⌜ TabledIn (now (sheet .entry)) naming (now (first .entry)) (now (second .entry)) (now (first .exit)) (now (second .exit)) c ⌝ }
-{
-    let w = u.words;
-    let members = u.members;
-    let lean = u.lean;
-    let everywhere = u.everywhere;
-    let named = u.named;
-    let unnamed = u.unnamed;
-    let mut tw = [0u64; 256];
-    let mut base = [0u64; 4];
-    frame::fill(
-        &members[..u.count],
-        &lean[..u.width],
-        w,
-        &everywhere[..u.globals],
-        &mut tw,
-        lw,
-        &mut base,
-    );
-    judge::fill_table(
-        &members[..u.count],
-        &lean[..u.width],
-        w,
-        &tw,
-        lw,
-        &named[..u.names],
-        &unnamed[..u.others],
-        &base,
-        naming,
-        first,
-        second,
-    )
-}
-
-// The same, with a store of link words that fits.
-pub fn fitted_table(
-    sheet: &[u8],
-    u: Setup,
-    naming: u64,
-    first: &mut [u64],
-    second: &mut [u64],
-) -> Counts
-    requires { ⌜ SetUp (now sheet) u ⌝ }
-    requires { ⌜ (u .refusal ≡ 0) × (4 ≤ length (now first)) × (4 ≤ length (now second)) ⌝ }
-    ensures { λ c. ⌜ TabledIn (now (sheet .entry)) naming (now (first .entry)) (now (second .entry)) (now (first .exit)) (now (second .exit)) c ⌝ }
-{
-    let n = u.links;
-    if n <= 528 {
-        let mut lw = [0u64; 528];
-        return table_in(sheet, u, naming, first, second, &mut lw);
-    }
-    if n <= 2064 {
-        let mut lw = [0u64; 2064];
-        return table_in(sheet, u, naming, first, second, &mut lw);
-    }
-    if n <= 4112 {
-        let mut lw = [0u64; 4112];
-        return table_in(sheet, u, naming, first, second, &mut lw);
-    }
-    let mut lw = [0u64; 16400];
-    table_in(sheet, u, naming, first, second, &mut lw)
 }
 
 // The surviving types under a naming, in both stores.

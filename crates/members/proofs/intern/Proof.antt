@@ -33,7 +33,7 @@ returns-2 : tie.Need-returns-2
 returns-2 c =
     let b = c .before .before in
     let s = b .before .before .before in
-    word-new _ _ (s .pre .0) _ (s .pre .1) (λ k h e. b .find .ensures .1 .0 k (omega arith) e) (c .if2 .taken)
+    word-new _ _ (s .pre .0) _ (s .pre .1) (λ k h e. b .find .ensures .1 .0 k (omega arith) e) (let h = c .if2 .taken in let r = s .pre .0 .room in omega arith)
 
 same-length-3 : tie.Need-same-length-3
 same-length-3 c = search needs

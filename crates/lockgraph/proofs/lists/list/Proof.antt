@@ -1,6 +1,6 @@
 -- `list` meets its contract. Assumes nothing.
 use lib.ListN.{replicate}
-use Rattle.lockgraph.proofs.Accepted.{few-words, four, store-lists}
+use Rattle.fitted.proofs.AcceptedLaws.{few-words, four, store-lists}
 use Rattle.lockgraph.proofs.RefusalLaws.{naming-number, set-up-zero}
 use Rattle.lockgraph.proofs.ListingLaws.{list-done, list-refused, list-room, list-short}
 use borrow.Author.Needs.{needs}

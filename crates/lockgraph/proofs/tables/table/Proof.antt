@@ -1,5 +1,5 @@
 -- `table` meets its contract. Assumes nothing.
-use Rattle.lockgraph.proofs.Accepted.{words-are}
+use Rattle.fitted.proofs.AcceptedLaws.{words-are}
 use Rattle.lockgraph.proofs.RefusalLaws.{set-up-zero, table-number, table-room}
 use Rattle.lockgraph.proofs.TableLaws.{table-done, table-refused}
 use Rattle.lockgraph.proofs.DemandLaws.{set-up-wide, table-demand-2, table-demand-3}

@@ -1,0 +1,152 @@
+-- What the set-up of a sheet that is not refused gives to every operation. Assumes nothing.
+use mathlib.Core.Path.{_≡_, refl, sym, ap, ap₂, _∙_, subst}
+use mathlib.Core.List.{List, _++_}
+use Prim.Native.Nat.{ℕ, _*_, _/_, _^_, _≤_, _<_, max}
+use native.Mathlib.Omega.{arith}
+use lib.ListN.{length, drop, length-map, replicate}
+use Rattle.ctl.specs.Positive.{positive}
+use Rattle.ctl.specs.Tableau.{Tableau, namings, startTypes}
+use Rattle.ctl.specs.Verdict as Ctl
+use Rattle.ctl.specs.Verdict.{roundsOf, survivingTypes}
+use Rattle.sheet.specs.Reading.{formulas, goalOf}
+use Rattle.tableau.specs.Families.{Ready, Rounds, Survivors}
+use Rattle.truth.specs.Blocks.{listOf}
+use Rattle.links.specs.Links.{linkRoom}
+use Rattle.start.specs.Starts.{makesAll, startList}
+use Rattle.tableau.specs.Tabled.{Tabled}
+use Rattle.truth.specs.Tables.{form, leanForms}
+use Rattle.tableau.specs.declared.table.Counts.{Counts}
+use Rattle.tableau.proofs.TableauLaws.{store-types, surviving-types, tabled}
+use Rattle.reader.specs.Reader.{refusalOf}
+use Rattle.prepare.specs.Prepared.{tableauIn}
+use Rattle.judge.specs.Judged.{Judged, Places, Room, goalsAt, verdictOf}
+use Rattle.judge.specs.declared.Verdict.{Verdict}
+use Rattle.wordset.specs.Words.{packed}
+use Rattle.ctl.specs.Lists.{elem}
+use Rattle.booking.specs.Booked.{tablesBy}
+use Rattle.booking.proofs.BookLaws.{tables-ext}
+use Rattle.frame.specs.Framed.{Framed, Sound}
+use Rattle.frame.specs.SetUp.{Accepts, SetUp, frameIn, globalsIn, leanIn, membersIn, namesIn, othersIn}
+use Rattle.frame.specs.declared.Setup.{Setup}
+use Rattle.frame.proofs.Stores.{fill-room, links-most}
+use Rattle.frame.proofs.VerdictLaws.{framed-verdict}
+use Rattle.fitted.specs.Accepted.{TabledIn, bookIn, verdictIn, wordsIn}
+
+pub four : 4 ≤ 4
+four = omega arith
+
+-- w words of 64 hold p bits, and no more words than that takes
+words-only : (w p : ℕ) → 1 ≤ w → p ≤ w * 64 → w * 64 ≤ max 64 p → w ≡ max 1 (p / 64)
+words-only w p a b c = omega arith
+
+module _ {s : List ℕ} {u : Setup} (x : SetUp s u) (z : u .refusal ≡ 0) where
+  abbrev S : Tableau
+  S = tableauIn s
+
+  pub not-refused : refusalOf s ≡ 0
+  not-refused = sym (x .is) ∙ z
+
+  accepts : Accepts s u
+  accepts = x .accepts not-refused
+
+  framed : Framed S (positive (goalOf (formulas s))) (membersIn u) (leanIn u) (globalsIn u) (namesIn u) (othersIn u) (frameIn u)
+  framed = accepts .framed
+
+  pub members-within : u .count ≤ length (u .members)
+  members-within = accepts .members-within
+
+  pub lean-within : u .width ≤ length (u .lean)
+  lean-within = accepts .lean-within
+
+  pub globals-within : u .globals ≤ length (u .everywhere)
+  globals-within = accepts .globals-within
+
+  pub names-within : u .names ≤ length (u .named)
+  names-within = accepts .names-within
+
+  pub others-within : u .others ≤ length (u .unnamed)
+  others-within = accepts .others-within
+
+  pub few-words : u .words ≤ 4
+  few-words = framed .few-words .1
+
+  pub namings-are : u .namings ≡ namings S
+  namings-are = framed .namings-are
+
+  lean-length : length (S .ln) ≡ length (leanIn u)
+  unfolding leanForms
+  lean-length = ap length (framed .matches .lean) ∙ length-map (leanIn u) (form (membersIn u))
+
+  pub words-are : u .words ≡ wordsIn s
+  unfolding wordsIn
+  words-are =
+      subst (λ n. u .words ≡ max 1 (2 ^ n / 64)) (sym lean-length)
+      (words-only (u .words) (2 ^ length (leanIn u)) (framed .few-words .0) (framed .enough) (framed .no-more))
+
+  pub types-within : 2 ^ length (S .ln) ≤ wordsIn s * 64
+  types-within = subst (λ w. 2 ^ length (S .ln) ≤ w * 64) words-are (subst (λ n. 2 ^ n ≤ u .words * 64) (sym lean-length) (framed .enough))
+
+  -- what a store holds that has a naming's surviving types in its first words
+  pub store-lists : (r : ℕ) (d d′ : List ℕ) → u .words ≤ length d → d′ ≡ packed (wordsIn s) (λ t. elem t (survivingTypes S r)) d → listOf (u .words) d′ ≡ survivingTypes S r
+  store-lists r d d′ h e =
+      store-types (framed .matches) (u .words) (replicate 4 0) (packed (u .words) (makesAll (membersIn u) (leanIn u) (globalsIn u)) (replicate 4 0)) few-words refl (framed .enough) r d d′ h
+      (e ∙ ap (λ w. packed w (λ t. elem t (survivingTypes S r)) d) (sym words-are))
+
+  pub few-namings : u .namings ≤ 65536
+  few-namings = framed .few-namings
+
+  -- ---- the words that are computed once
+
+  -- the largest store has room for all link words
+  pub links-within : u .links ≤ 16400
+  links-within = links-most accepts
+
+  pub words-asked : (t l b : ℕ) → t ≡ 256 → u .links ≤ l → b ≡ 4
+      → Sound (membersIn u) (leanIn u) (globalsIn u) × ((u .words ≤ 4) × (length (membersIn u) * u .words ≤ t) × (linkRoom (membersIn u) (u .words) ≤ l) × (u .words ≤ b))
+  words-asked = fill-room accepts
+
+  module _ {tw lw : List ℕ} (base₀ : List ℕ) {base : List ℕ} (f : Ready (membersIn u) (leanIn u) (u .words) tw lw × (base ≡ packed (u .words) (makesAll (membersIn u) (leanIn u) (globalsIn u)) base₀)) (l₀ : length base₀ ≡ 4) (l : length base ≡ 4) where
+    enough-base : u .words ≤ length base₀
+    enough-base = let w = few-words in omega arith
+
+    -- ---- one naming's table
+
+    pub fill-asked : (m n : ℕ) → 4 ≤ m → 4 ≤ n
+        → Ready (membersIn u) (leanIn u) (u .words) tw lw × (Places (namesIn u) (othersIn u) × ((u .words ≤ 4) × ((u .words ≤ length base) × ((u .words ≤ m) × (u .words ≤ n)))))
+    fill-asked m n a b = let w = few-words in (f .0, (framed .places-in, (w, (omega arith, (omega arith, omega arith)))))
+
+    module _ (r : ℕ) where
+      abbrev start : List ℕ
+      start = startList (u .words) base (namesIn u) (othersIn u) r
+
+      pub table-filled : {first second first′ second′ : List ℕ} {c : Counts} → Tabled start (Survivors (membersIn u) (leanIn u) start) (Rounds (membersIn u) (leanIn u) start) (u .words) first second first′ second′ c
+          → TabledIn s r first second first′ second′ c
+      table-filled {first} {second} {first′} {second′} {c} t =
+          subst (λ w. Tabled (startTypes S r) (survivingTypes S r) (roundsOf S r) w first second first′ second′ c) words-are
+          (tabled (framed .matches) (u .words) base₀ base enough-base (f .1) (framed .enough) r t)
+
+      pub survivors-are : Survivors (membersIn u) (leanIn u) start ≡ survivingTypes S r
+      survivors-are = surviving-types (framed .matches) (u .words) base₀ base enough-base (f .1) (framed .enough) r
+
+    -- ---- the tables of all namings
+
+    pub book-asked : (n : ℕ) → u .namings * u .words ≤ n
+        → Ready (membersIn u) (leanIn u) (u .words) tw lw × (Places (namesIn u) (othersIn u) × ((u .words ≤ 4) × ((u .words ≤ length base) × (u .namings * u .words ≤ n))))
+    book-asked n h = let w = few-words in (f .0, (framed .places-in, (w, (omega arith, h))))
+
+    pub book-filled : (d : List ℕ) {d′ : List ℕ} → d′ ≡ tablesBy (u .words) (λ r t. elem t (Survivors (membersIn u) (leanIn u) (startList (u .words) base (namesIn u) (othersIn u) r))) (u .namings) ++ drop (u .namings * u .words) d → d′ ≡ bookIn s d
+    book-filled d e =
+        e ∙ ap (λ l. l ++ drop (u .namings * u .words) d) (tables-ext (u .words) _ _ (u .namings) (λ r t. ap (elem t) (survivors-are r)))
+        ∙ ap₂ (λ w n. tablesBy w (λ r t. elem t (survivingTypes S r)) n ++ drop (n * w) d) words-are namings-are
+
+    -- ---- judging
+
+    pub judge-asked : (first second among todo found : List ℕ) → length first ≡ 4 → length second ≡ 4 → length among ≡ 4 → length todo ≡ 4 → length found ≡ 4
+        → Ready (membersIn u) (leanIn u) (u .words) tw lw × (Room (u .words) first second among todo found × (Places (namesIn u) (othersIn u) × ((u .words ≤ length base) × (u .goal < length (membersIn u)))))
+    judge-asked first second among todo found a b c d e =
+        let w = few-words in
+        (f .0, (record { first-room = omega arith; second-room = omega arith; u-room = omega arith; todo-room = omega arith; v-room = omega arith }, (framed .places-in, (omega arith, framed .goal-inside))))
+
+    pub judged : {v : Verdict} → Judged (goalsAt (membersIn u) (leanIn u) (u .words) base (namesIn u) (othersIn u) (u .goal)) (u .namings) v → verdictIn s ≡ verdictOf v
+    unfolding verdictIn
+    judged j = framed-verdict framed base₀ enough-base (f .1) j

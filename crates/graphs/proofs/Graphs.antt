@@ -1,0 +1,93 @@
+-- Document 01's proved graphs, from the bytes of each sheet, through the definitions that the contracts cite, to what Verdict and Table answer, which types survive, and the
+-- rows of snapshots: one table, computed. Assumes nothing.
+use mathlib.Core.Path.{_≡_, refl}
+use mathlib.Core.List.{List, [], _∷_, _++_, map}
+use Prim.Native.Nat.{ℕ}
+use Prim.Native.String.{String}
+use lib.ListN.{length, replicate}
+use Rattle.ctl.specs.Closure.{andSpine, axSpine, closure, closureAll, closureOf, dedupe, elemF, exSpine, orSpine, spine}
+use Rattle.ctl.specs.Demand3.{sheetTableau}
+use Rattle.ctl.specs.Expansion.{expand, parts}
+use Rattle.ctl.specs.Lean.{bytesLt, isNext, lean, printLt, symbolLt}
+use Rattle.ctl.specs.Modes.{modes, single}
+use Rattle.ctl.specs.Positive.{signed}
+use Rattle.ctl.specs.Tableau.{namings, startTypes}
+use Rattle.ctl.specs.Verdict.{roundsOf, survivingTypes, verdict}
+use Rattle.ctl.specs.Evaluator.{leads, rounds, row, sat, tableAU, tableEU}
+use Rattle.ctl.specs.Snapshot.{step}
+use Rattle.wordset.specs.Below.{allBelow, anyBelow, countBelow}
+use Rattle.evaluator.specs.Rows.{rowOf}
+use Rattle.snapshot.specs.Read.{byteStep, fits, judged, lineCount, lineFits, lineStore, readSnapshot, run, starts, twice}
+use Rattle.snapshot.specs.Store.{entryAt, ofStore}
+use Rattle.layout.specs.Text.{begins, ended, has, same, split}
+use Rattle.layout.specs.Layout.{anyLong, byteWrong, declare, declared, endsRight, kindOf, kindRight, kindsFrom, kindsOf, layoutRight, lengthWrong, nameCount, nameRight, namesFrom, namesOf, startsRight, textsOf}
+use Rattle.token.specs.Token.{pairAt, pairOf, signOf, singleOf, skip, spaces, tokenAt, tokenFrom}
+use Rattle.syntax.specs.Operators.{choiceOf}
+use Rattle.syntax.specs.Modes.{bracesAt, markedOf, modeAt, modesAt, withMode}
+use Rattle.syntax.specs.Parse.{formulaAt, letterLow, lineAt, pathFrom, unitAt}
+use Rattle.sheet.specs.Sheet.{trees}
+use Rattle.sheet.specs.Reading.{globalsOf, goalOf}
+use Rattle.sheet.specs.Refusal.{bracesWrong, conditions, grammarWrong, symbolsWrong}
+use Rattle.reader.specs.Reader.{refusalWithin}
+use Rattle.reader.proofs.Texts.{bytes}
+use Rattle.lockgraph.specs.declared.tables.TableAnswer.{TableAnswer}
+use Rattle.lockgraph.specs.declared.tables.TableAnswer.the-variants.{Done}
+use Rattle.lockgraph.specs.declared.verdicts.VerdictAnswer.{VerdictAnswer}
+use Rattle.lockgraph.specs.declared.verdicts.VerdictAnswer.the-variants.{Open, Unsatisfiable}
+use Rattle.lockgraph.specs.Outcomes.{snapshotRefusal, snapshotRow, tableAnswer, tableRefusal, verdictOf}
+use Rattle.fitted.specs.Accepted.{survivorsIn, verdictIn, wordsIn}
+
+-- a sheet, and what document 01 says of it: the verdict; what Table answers with stores of 4 words under a naming (how many words; types at start, left, rounds); the types that survive
+-- under a naming; the row of a snapshot's text
+record Graph : Type 0 where
+  sheet : List ℕ
+  verdict : List VerdictAnswer
+  tables : List (ℕ × TableAnswer)
+  survivors : List (ℕ × List ℕ)
+  rows : List (List ℕ × List ℕ)
+
+-- the lines of a sheet with one goal and no globals, under `k f`, `mark field`
+abbrev under : String → List ℕ
+under goal = bytes "k f\nmark field\ngoal " ++ bytes goal ++ bytes "\n"
+
+abbrev graph : List ℕ → VerdictAnswer → Graph
+graph s v = record { sheet = s; verdict = v ∷ []; tables = []; survivors = []; rows = [] }
+
+abbrev graphs : List Graph
+graphs =
+    record { sheet = under "EX{f}k"; verdict = Open 0 2 ∷ []; tables = (0, Done 1 4 4 0) ∷ []; survivors = []; rows = (bytes "k f\n0 2\n1 0\n", 3 ∷ 2 ∷ []) ∷ [] }
+    ∷ graph (under "1") (Open 0 0)
+    ∷ record { sheet = under "0"; verdict = Unsatisfiable ∷ []; tables = (0, Done 1 1 1 0) ∷ []; survivors = []; rows = [] }
+    ∷ graph (under "EX{f}k&EX{f}!k") Unsatisfiable
+    ∷ graph (under "EX{F}k&EX{F}!k") (Open 0 6)
+    ∷ record {
+      sheet = bytes "k v f g\nmark name field field\nall v>(EX{f}k&EX{f}!k)\ngoal EX{g}v\n";
+      verdict = Unsatisfiable ∷ [];
+      tables = (0, Done 1 16 6 1) ∷ (10, Done 1 17 6 2) ∷ [];
+      survivors = (10, 0 ∷ 1 ∷ 4 ∷ 5 ∷ 16 ∷ 17 ∷ []) ∷ [];
+      rows = [];
+    }
+    ∷ graph (under "AF{f}k&AX{f}0&!k") Unsatisfiable
+    ∷ graph (under "A{f,F}(1Uk)&!k&EX{f}!k") Unsatisfiable
+    ∷ graph (bytes "v w f g\nname name field field\ngoal EX{f}(v&w)&EX{g}(v&!w)\n") (Open 0 12)
+    ∷ record { sheet = under "EG{f}!k"; verdict = []; tables = []; survivors = []; rows = (bytes "k f\n0 0\n", 3 ∷ []) ∷ [] }
+    ∷ record { sheet = under "AF{f}k"; verdict = []; tables = []; survivors = []; rows = (bytes "k f\n0 1\n", 2 ∷ []) ∷ (bytes "k f\n0 0\n", 2 ∷ []) ∷ [] }
+    ∷ []
+
+-- the row that Snapshot leaves of one of n bytes
+abbrev rowLeft : List ℕ → List ℕ → ℕ → List ℕ
+rowLeft s t n = snapshotRow s t (snapshotRefusal s t n) (replicate n 0)
+
+computed : Graph → Graph
+unfolding andSpine axSpine closure closureAll closureOf dedupe elemF exSpine orSpine spine sheetTableau expand parts bytesLt isNext lean printLt symbolLt modes single signed namings startTypes roundsOf survivingTypes verdict begins ended has same split anyLong byteWrong declare declared endsRight kindOf kindRight kindsFrom kindsOf layoutRight lengthWrong nameCount nameRight namesFrom namesOf startsRight textsOf pairAt pairOf signOf singleOf skip spaces tokenAt tokenFrom choiceOf bracesAt markedOf modeAt modesAt withMode formulaAt letterLow lineAt pathFrom unitAt trees globalsOf goalOf bracesWrong conditions grammarWrong symbolsWrong refusalWithin tableRefusal verdictIn verdictOf wordsIn step leads row rounds tableEU tableAU sat rowOf ofStore entryAt byteStep run starts lineCount lineStore lineFits fits twice judged readSnapshot snapshotRefusal allBelow anyBelow countBelow
+computed g = record {
+  sheet = g .sheet;
+  verdict = map (λ v. verdictOf (g .sheet)) (g .verdict);
+  tables = map (λ t. (t .0, tableAnswer (g .sheet) (t .0) (tableRefusal (g .sheet) (t .0) 4 4))) (g .tables);
+  survivors = map (λ t. (t .0, survivorsIn (g .sheet) (t .0))) (g .survivors);
+  rows = map (λ t. (t .0, rowLeft (g .sheet) (t .0) (length (t .1)))) (g .rows);
+}
+
+as-drawn : map computed graphs ≡ graphs
+unfolding computed
+as-drawn = refl
