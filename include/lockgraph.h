@@ -11,13 +11,13 @@
  *
  * What a caller gets:
  * - the caller owns every store. No function keeps a pointer, allocates, or has a state: calls from several threads are free where they write to different stores;
- * - the result is 0, or the number of the refusal below, the lowest that applies. After a refusal all words of `out` are 0 and every other store is as it was;
+ * - the result is 0, or the number of the refusal below, the lowest that applies. After a refusal every store is as it was, `out` too;
  * - otherwise `out` and the stores are as described, and the elements that are not described are as they were.
  *
  * Every sheet:   1 length (empty, over 1,024 bytes, or a line over 200)   2 byte   3 layout   4 names   5 kinds   6 grammar   7 symbol   8 braces   9 closure   10 lean
  * table, list:   11 naming (not below the number of namings)
  * table, book, list:   12 store (too short)
- * snapshot:   13 snapshot   14 entry   15 twice   16 row (too short)
+ * snapshot:   13 snapshot   14 entry   15 twice   16 row (below, at lockgraph_snapshot)
  *
  * docs/SHEETS.md says how a sheet is written and what a verdict means; crates/ctl/specs/Tableau what types and namings are. A set of types is W words (1, 2 or 4): type j is bit j mod 64 of word j div 64. */
 #ifndef LOCKGRAPH_H
@@ -45,16 +45,31 @@ uint8_t lockgraph_book(const uint8_t *sheet, size_t sheet_len, uint64_t *store, 
 uint8_t lockgraph_list(const uint8_t *sheet, size_t sheet_len, uint64_t naming, uint16_t *store, size_t store_len, uint64_t out[1]);
 
 /* Whether the goal is open, or unsatisfiable: then no snapshot of any size that obeys the sheet has it at any node.
- * out, 3 words: 1, the least naming under which a surviving type has the goal, and the least such type, where it is open; 0, 0, 0 where it is unsatisfiable. */
+ * out, 3 words: 1, the least naming under which a surviving type has the goal, and the least such type, where it is open; 2, 0, 0 where it is unsatisfiable. So whoever
+ * begins with out[0] == 0 and asks for out[0] == 2 never takes a refusal for `unsatisfiable`. */
 uint8_t lockgraph_verdict(const uint8_t *sheet, size_t sheet_len, uint64_t out[3]);
 
 /* Where the goal's text lies in the sheet, without the newline after it.
  * out, 2 words: the place of its first byte, from 0; how many bytes it has. */
 uint8_t lockgraph_goal(const uint8_t *sheet, size_t sheet_len, uint64_t out[2]);
 
-/* At which nodes of a snapshot, given as text, the goal and the globals hold: byte i of the row becomes 1 if the goal holds at node i + 1, plus 2 if all globals do.
- * 16 bytes are always enough.
- * out, 1 word: how many nodes the snapshot has. */
+/* At which nodes of a snapshot, given as text, the goal and the globals hold: byte i of the row becomes 1 if the goal holds at node i + 1, plus 2 if all globals do
+ * (it is added where the sheet has none). 16 bytes are always enough.
+ * out, 1 word: how many nodes the snapshot has.
+ *
+ * The text: a copy of the sheet's line 1, then a line for each of 1 to 16 nodes, from node 1. Every line ends with a newline, the last one too. A node's line has an entry for
+ * each symbol of line 1, in that order, with single spaces between and none at its ends:
+ * - for a mark or a name, 1 if it is on the node, else 0;
+ * - for a field, the number of the node it leads to, from 1, or 0 if it leads nowhere.
+ * Numbers are decimal, of 1 or 2 digits, without a leading 0. Under a sheet whose mark is k and whose field is f, the text "k f\n0 2\n1 0\n" has two nodes: k is on node 2 alone, and f
+ * leads from node 1 to node 2 and from there nowhere.
+ *
+ * Refused, each asked of the whole text before the next one is asked:
+ * 13  the text is over 1,024 bytes, or has another shape than that: another first line, no node or over 16, no newline at the end, an empty line, an entry too few or too many,
+ *     spaces elsewhere, another byte, three digits, or a leading 0 (`00`, `01`);
+ * 14  an entry of a mark or a name is above 1, or an entry of a field is above the number of nodes;
+ * 15  a name, also one that no formula has, is on two nodes;
+ * 16  the row has fewer bytes than the snapshot has nodes. */
 uint8_t lockgraph_snapshot(const uint8_t *sheet, size_t sheet_len, const uint8_t *text, size_t text_len, uint8_t *row, size_t row_len, uint64_t out[1]);
 
 #ifdef __cplusplus

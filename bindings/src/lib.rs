@@ -20,7 +20,7 @@
 #![warn(unsafe_op_in_unsafe_fn)]
 
 #[allow(unsafe_code)]
-mod raw;
+pub mod raw;
 mod refusal;
 
 pub use refusal::Refusal;
@@ -130,7 +130,8 @@ pub fn table<'a>(
     first: &'a mut [u64],
     second: &'a mut [u64],
 ) -> Result<Table<'a>, Refusal> {
-    let [words, start, left, rounds, last] = told(raw::table(sheet, naming, first, second))?;
+    let [words, start, left, rounds, last] =
+        told(|out| raw::table(sheet, naming, first, second, out))?;
     let (store, written) = match last {
         1 => (Store::First, first),
         _ => (Store::Second, second),
@@ -162,7 +163,7 @@ pub fn table<'a>(
 /// # Ok::<(), Refusal>(())
 /// ```
 pub fn book<'a>(sheet: &[u8], store: &'a mut [u64]) -> Result<Book<'a>, Refusal> {
-    let [namings, words] = told(raw::book(sheet, store))?;
+    let [namings, words] = told(|out| raw::book(sheet, store, out))?;
     Ok(Book {
         words: &store[..(namings * words) as usize],
         namings,
@@ -186,7 +187,7 @@ pub fn book<'a>(sheet: &[u8], store: &'a mut [u64]) -> Result<Book<'a>, Refusal>
 /// # Ok::<(), Refusal>(())
 /// ```
 pub fn list<'a>(sheet: &[u8], naming: u64, store: &'a mut [u16]) -> Result<&'a [u16], Refusal> {
-    let [left] = told(raw::list(sheet, naming, store))?;
+    let [left] = told(|out| raw::list(sheet, naming, store, out))?;
     Ok(&store[..left as usize])
 }
 
@@ -201,13 +202,14 @@ pub fn list<'a>(sheet: &[u8], naming: u64, store: &'a mut [u16]) -> Result<&'a [
 /// assert_eq!(verdict(b""), Err(Refusal::Length));
 /// ```
 pub fn verdict(sheet: &[u8]) -> Result<Verdict, Refusal> {
-    let [open, naming, type_number] = told(raw::verdict(sheet))?;
-    Ok(match open {
+    let [verdict, naming, type_number] = told(|out| raw::verdict(sheet, out))?;
+    Ok(match verdict {
         1 => Verdict::Open {
             naming,
             type_number: type_number as u16,
         },
-        _ => Verdict::Unsatisfiable,
+        2 => Verdict::Unsatisfiable,
+        _ => unreachable!("the library tells 1 or 2"),
     })
 }
 
@@ -220,7 +222,7 @@ pub fn verdict(sheet: &[u8]) -> Result<Verdict, Refusal> {
 /// assert_eq!(goal_text(b"k f\nmark field\ngoal EX{f}\n"), Err(Refusal::Grammar));
 /// ```
 pub fn goal_text(sheet: &[u8]) -> Result<&str, Refusal> {
-    let [place, length] = told(raw::goal(sheet))?;
+    let [place, length] = told(|out| raw::goal(sheet, out))?;
     let text = &sheet[place as usize..][..length as usize];
     Ok(std::str::from_utf8(text).expect("a sheet that is not refused has printable bytes"))
 }
@@ -229,6 +231,10 @@ pub fn goal_text(sheet: &[u8]) -> Result<&str, Refusal> {
 ///
 /// Byte `i` of the row becomes 1 if the goal holds at node `i + 1`, plus 2 if all globals do. [`ROW_BYTES`] bytes are always enough.
 /// The bytes behind those of the nodes are as they were.
+///
+/// The text is a copy of the sheet's line 1 and then a line for each node, each line with its newline. A node's line has an entry for each
+/// symbol of line 1, in that order, with single spaces between: 1 or 0 for a mark or a name that is on the node or not, and for a field the
+/// number of the node it leads to, from 1, or 0 if it leads nowhere.
 ///
 /// ```
 /// use lockgraph::{snapshot, Refusal, ROW_BYTES};
@@ -243,14 +249,15 @@ pub fn goal_text(sheet: &[u8]) -> Result<&str, Refusal> {
 /// # Ok::<(), Refusal>(())
 /// ```
 pub fn snapshot<'a>(sheet: &[u8], text: &[u8], row: &'a mut [u8]) -> Result<&'a [u8], Refusal> {
-    let [nodes] = told(raw::snapshot(sheet, text, row))?;
+    let [nodes] = told(|out| raw::snapshot(sheet, text, row, out))?;
     Ok(&row[..nodes as usize])
 }
 
 /// What the library told, or its refusal.
-fn told<const N: usize>((number, out): (u8, [u64; N])) -> Result<[u64; N], Refusal> {
-    match number {
+fn told<const N: usize>(call: impl FnOnce(&mut [u64; N]) -> u8) -> Result<[u64; N], Refusal> {
+    let mut out = [0; N];
+    match call(&mut out) {
         0 => Ok(out),
-        _ => Err(Refusal::of_number(number).expect("the library's refusals are 1 to 16")),
+        number => Err(Refusal::of_number(number).expect("the library's refusals are 1 to 16")),
     }
 }

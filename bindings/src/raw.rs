@@ -1,11 +1,11 @@
-//! The calls across the language border, and all that is unsafe. What the library promises and what a caller owes is in
-//! include/lockgraph.h.
+//! The library's own calls, as include/lockgraph.h has them, and all that is unsafe. The functions of [the crate](crate) have the same
+//! answers with types of their own.
 //!
-//! Each function gives the number of the refusal, or 0, and the words that the library told. What a caller owes is kept by the types
-//! of the arguments:
+//! Each gives the number of the refusal, or 0. Without a refusal `out` holds afterwards what the function says; with one it is as it
+//! was, like every other store. What a caller owes is kept by the types of the arguments:
 //! - a slice is one store of its length, and its pointer is aligned and never null, also where it is empty;
 //! - `out` is an array of the prototype's length;
-//! - a `&mut` slice and `out` overlap no other argument.
+//! - a `&mut` slice and `out`, each borrowed alone, overlap no other argument.
 //!
 //! The library keeps no pointer and has no state, so nothing outlives a call. The stack is what the crate's documentation asks for.
 
@@ -49,10 +49,15 @@ extern "C" {
 }
 
 /// Told: W, start, left, rounds, and the store written last, 1 or 2.
-pub fn table(sheet: &[u8], naming: u64, first: &mut [u64], second: &mut [u64]) -> (u8, [u64; 5]) {
-    let mut out = [0; 5];
+pub fn table(
+    sheet: &[u8],
+    naming: u64,
+    first: &mut [u64],
+    second: &mut [u64],
+    out: &mut [u64; 5],
+) -> u8 {
     // SAFETY: pointers and lengths are those of slices, the three that are written are borrowed alone, and `out` has 5 words.
-    let number = unsafe {
+    unsafe {
         lockgraph_table(
             sheet.as_ptr(),
             sheet.len(),
@@ -63,15 +68,13 @@ pub fn table(sheet: &[u8], naming: u64, first: &mut [u64], second: &mut [u64]) -
             second.len(),
             out.as_mut_ptr(),
         )
-    };
-    (number, out)
+    }
 }
 
 /// Told: the number of namings, and W.
-pub fn book(sheet: &[u8], store: &mut [u64]) -> (u8, [u64; 2]) {
-    let mut out = [0; 2];
+pub fn book(sheet: &[u8], store: &mut [u64], out: &mut [u64; 2]) -> u8 {
     // SAFETY: pointers and lengths are those of slices, the two that are written are borrowed alone, and `out` has 2 words.
-    let number = unsafe {
+    unsafe {
         lockgraph_book(
             sheet.as_ptr(),
             sheet.len(),
@@ -79,15 +82,13 @@ pub fn book(sheet: &[u8], store: &mut [u64]) -> (u8, [u64; 2]) {
             store.len(),
             out.as_mut_ptr(),
         )
-    };
-    (number, out)
+    }
 }
 
 /// Told: how many types are listed.
-pub fn list(sheet: &[u8], naming: u64, store: &mut [u16]) -> (u8, [u64; 1]) {
-    let mut out = [0; 1];
+pub fn list(sheet: &[u8], naming: u64, store: &mut [u16], out: &mut [u64; 1]) -> u8 {
     // SAFETY: pointers and lengths are those of slices, the two that are written are borrowed alone, and `out` has 1 word.
-    let number = unsafe {
+    unsafe {
         lockgraph_list(
             sheet.as_ptr(),
             sheet.len(),
@@ -96,32 +97,26 @@ pub fn list(sheet: &[u8], naming: u64, store: &mut [u16]) -> (u8, [u64; 1]) {
             store.len(),
             out.as_mut_ptr(),
         )
-    };
-    (number, out)
+    }
 }
 
-/// Told: 1, naming and type of an open goal, or zeros.
-pub fn verdict(sheet: &[u8]) -> (u8, [u64; 3]) {
-    let mut out = [0; 3];
-    // SAFETY: pointer and length are those of a slice, and `out`, borrowed alone, has 3 words.
-    let number = unsafe { lockgraph_verdict(sheet.as_ptr(), sheet.len(), out.as_mut_ptr()) };
-    (number, out)
+/// Told: 1, naming and type of an open goal; 2, 0, 0 of an unsatisfiable one.
+pub fn verdict(sheet: &[u8], out: &mut [u64; 3]) -> u8 {
+    // SAFETY: pointer and length are those of a slice, and `out` has 3 words.
+    unsafe { lockgraph_verdict(sheet.as_ptr(), sheet.len(), out.as_mut_ptr()) }
 }
 
 /// Told: the place of the goal's first byte, and how many bytes it has.
-pub fn goal(sheet: &[u8]) -> (u8, [u64; 2]) {
-    let mut out = [0; 2];
-    // SAFETY: pointer and length are those of a slice, and `out`, borrowed alone, has 2 words.
-    let number = unsafe { lockgraph_goal(sheet.as_ptr(), sheet.len(), out.as_mut_ptr()) };
-    (number, out)
+pub fn goal(sheet: &[u8], out: &mut [u64; 2]) -> u8 {
+    // SAFETY: pointer and length are those of a slice, and `out` has 2 words.
+    unsafe { lockgraph_goal(sheet.as_ptr(), sheet.len(), out.as_mut_ptr()) }
 }
 
 /// Told: how many nodes the snapshot has.
-pub fn snapshot(sheet: &[u8], text: &[u8], row: &mut [u8]) -> (u8, [u64; 1]) {
-    let mut out = [0; 1];
+pub fn snapshot(sheet: &[u8], text: &[u8], row: &mut [u8], out: &mut [u64; 1]) -> u8 {
     // SAFETY: pointers and lengths are those of slices, the two that are written are borrowed alone, and `out` has 1 word. Sheet and
     // text are only read, so they may overlap.
-    let number = unsafe {
+    unsafe {
         lockgraph_snapshot(
             sheet.as_ptr(),
             sheet.len(),
@@ -131,6 +126,5 @@ pub fn snapshot(sheet: &[u8], text: &[u8], row: &mut [u8]) -> (u8, [u64; 1]) {
             row.len(),
             out.as_mut_ptr(),
         )
-    };
-    (number, out)
+    }
 }

@@ -42,13 +42,13 @@ pub enum Refusal {
     Naming = 11,
     /// A store is too short.
     Store = 12,
-    /// The snapshot's text is not line 1 and 1 to 16 lines of entries.
+    /// The snapshot's text is over 1,024 bytes, or not a copy of line 1 and 1 to 16 lines of entries.
     Snapshot = 13,
-    /// An entry of the snapshot is above 1, or that of a field above the number of nodes.
+    /// An entry of the snapshot is above 1 for a mark or a name, or above the number of nodes for a field.
     Entry = 14,
-    /// A name is on two nodes of the snapshot.
+    /// A name is on two nodes of the snapshot, used in a formula or not.
     Twice = 15,
-    /// The row is too short.
+    /// The row is shorter than the snapshot has nodes.
     Row = 16,
 }
 

@@ -13,13 +13,14 @@ int main(void)
         fputs("verdict: standard input cannot be read\n", stderr);
         return 1;
     }
-    uint64_t out[3];
+    /* A refusal leaves this as it is, so `unsatisfiable` is never said of a sheet that was not judged. */
+    uint64_t out[3] = {0, 0, 0};
     uint8_t refusal = lockgraph_verdict(sheet, n, out);
     if (refusal != 0) {
         printf("refused %d\n", refusal);
     } else if (out[0] == 1) {
         printf("open %" PRIu64 " %" PRIu64 "\n", out[1], out[2]);
-    } else {
+    } else if (out[0] == 2) {
         printf("unsatisfiable\n");
     }
     return 0;

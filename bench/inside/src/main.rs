@@ -36,7 +36,7 @@ fn consume<T>(answer: T) {
 fn agree(sheet: &[u8]) {
     let verdict = plain::verdict(sheet).map(|verdict| match verdict {
         plain::Verdict::Open { naming, least } => [1, naming, least as u64],
-        plain::Verdict::Unsatisfiable => [0, 0, 0],
+        plain::Verdict::Unsatisfiable => [2, 0, 0],
     });
     assert_eq!(
         proved::verdict(sheet),

@@ -17,7 +17,7 @@ extern "C" {
     ) -> c_uchar;
 }
 
-/// The refusal, or 1, naming and type; 0, 0, 0 where it is unsatisfiable.
+/// The refusal, or 1, naming and type; 2, 0, 0 where it is unsatisfiable.
 pub fn verdict(sheet: &[u8]) -> Result<[u64; 3], u8> {
     let mut out = [0; 3];
     // The sheet is one lent store, and `out` has the 3 words that the prototype says.

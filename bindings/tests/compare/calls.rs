@@ -4,7 +4,8 @@ use super::second::Second;
 use super::seen::Seen;
 use super::sheets::Sheet;
 use super::stores::Stores;
-use lockgraph::Refusal;
+use super::told;
+use lockgraph::{raw, Refusal};
 use second_checker::closure::accept;
 use second_checker::corpus::escape;
 use second_checker::generate::Chance;
@@ -30,7 +31,7 @@ pub fn ask(
         stores,
         seen,
         namings: some_namings(c, namings),
-        book: namings as usize * words,
+        book: [namings, words as u64],
         pictures: (0..4).map(|_| sheet.picture(c)).collect(),
     };
     let mut faults: Vec<String> = (0..calls)
@@ -71,8 +72,8 @@ struct Calls<'a> {
     stores: &'a mut Stores,
     seen: &'a mut Seen,
     namings: [u64; 8],
-    /// How many words a book needs.
-    book: usize,
+    /// How many namings a book has, and how many words for each.
+    book: [u64; 2],
     pictures: Vec<Vec<u8>>,
 }
 
@@ -84,7 +85,7 @@ impl Calls<'_> {
             (0, _) => self.verdict(),
             (1, _) => self.goal_text(),
             (_, 0..=4) => self.table(naming, around(c, 4), around(c, 4)),
-            (_, 5) => self.book(around(c, self.book)),
+            (_, 5) => self.book(around(c, (self.book[0] * self.book[1]) as usize)),
             (_, 6..=10) => {
                 let left = self.second.left(naming);
                 self.list(naming, around(c, left))
@@ -110,6 +111,13 @@ impl Calls<'_> {
         unlike(&got, &expected, |got, table| same_table(got, table, starts))
             .or_else(|| self.stores.first.fault(&promised))
             .or_else(|| self.stores.second.fault(&promised))
+            .or_else(|| {
+                let first = self.stores.first.lend(first_len);
+                let second = self.stores.second.lend(second_len);
+                told::fault(&mut self.stores.out, &expected, told::table, |out| {
+                    raw::table(self.sheet, naming, first, second, out)
+                })
+            })
             .map(|fault| format!("table {naming} {first_len} {second_len}: {fault}"))
     }
 
@@ -120,6 +128,13 @@ impl Calls<'_> {
         let promised = expected.clone().unwrap_or_default();
         unlike(&got, &expected, |got, words| same_book(got, words))
             .or_else(|| self.stores.book.fault(&promised))
+            .or_else(|| {
+                let store = self.stores.book.lend(length);
+                let words = |_: &_| self.book;
+                told::fault(&mut self.stores.out, &expected, words, |out| {
+                    raw::book(self.sheet, store, out)
+                })
+            })
             .map(|fault| format!("book {length}: {fault}"))
     }
 
@@ -134,6 +149,12 @@ impl Calls<'_> {
             ascending(numbers) == *types
         })
         .or_else(|| self.stores.list.fault(&promised))
+        .or_else(|| {
+            let store = self.stores.list.lend(length);
+            told::fault(&mut self.stores.out, &expected, told::count, |out| {
+                raw::list(self.sheet, naming, store, out)
+            })
+        })
         .map(|fault| format!("list {naming} {length}: {fault}"))
     }
 
@@ -141,7 +162,13 @@ impl Calls<'_> {
         let expected = self.second.verdict();
         self.seen.count("verdict", &expected);
         let got = lockgraph::verdict(self.sheet);
-        unlike(&got, &expected, same_verdict).map(|fault| format!("verdict: {fault}"))
+        unlike(&got, &expected, same_verdict)
+            .or_else(|| {
+                told::fault(&mut self.stores.out, &expected, told::verdict, |out| {
+                    raw::verdict(self.sheet, out)
+                })
+            })
+            .map(|fault| format!("verdict: {fault}"))
     }
 
     fn goal_text(&mut self) -> Option<String> {
@@ -149,6 +176,12 @@ impl Calls<'_> {
         self.seen.count("goal", &expected);
         let got = lockgraph::goal_text(self.sheet);
         unlike(&got, &expected, |got, text| got.as_bytes() == *text)
+            .or_else(|| {
+                let words = |text: &&[u8]| self.second.place_and_length(text);
+                told::fault(&mut self.stores.out, &expected, words, |out| {
+                    raw::goal(self.sheet, out)
+                })
+            })
             .map(|fault| format!("goal: {fault}"))
     }
 
@@ -159,6 +192,12 @@ impl Calls<'_> {
         let promised = expected.clone().unwrap_or_default();
         unlike(&got, &expected, |got, row| got == row)
             .or_else(|| self.stores.row.fault(&promised))
+            .or_else(|| {
+                let row = self.stores.row.lend(length);
+                told::fault(&mut self.stores.out, &expected, told::count, |out| {
+                    raw::snapshot(self.sheet, text, row, out)
+                })
+            })
             .map(|fault| format!("snapshot {length} {}: {fault}", escape(text)))
     }
 }

@@ -1,14 +1,15 @@
 //! Generated calls, asked of the proved library and of the second checker.
 //!
 //! Compared are the outcomes and every element of every lent store, which is filled with a pattern before each call: after a refusal all
-//! of it is as it was, otherwise all but the promised part. The calls come in blocks, and a block is the same for the same seed and
-//! number.
+//! of it is as it was, otherwise all but the promised part. Each call is made through the safe function, and again as a program in C makes
+//! it, with `out` for a further store. The calls come in blocks, and a block is the same for the same seed and number.
 
 mod calls;
 mod second;
 mod seen;
 mod sheets;
 mod stores;
+mod told;
 
 use second_checker::generate::Chance;
 use seen::Seen;

@@ -67,6 +67,12 @@ impl<'a> Second<'a> {
         })
     }
 
+    /// Where a part of the sheet begins, and how long it is.
+    pub fn place_and_length(&self, part: &[u8]) -> [u64; 2] {
+        let place = part.as_ptr() as usize - self.sheet.as_ptr() as usize;
+        [place as u64, part.len() as u64]
+    }
+
     /// How many types stand under a naming of the sheet; 0 where it has no such naming.
     pub fn left(&mut self, naming: u64) -> usize {
         self.striking(naming).map_or(0, |striking| striking.left())

@@ -67,4 +67,5 @@ pub struct Stores {
     pub book: Lent<u64>,
     pub list: Lent<u16>,
     pub row: Lent<u8>,
+    pub out: Lent<u64>,
 }

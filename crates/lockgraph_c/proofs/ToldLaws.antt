@@ -4,6 +4,7 @@ use mathlib.Core.Bool.{Bool, true, false, cond}
 use mathlib.Core.List.{List, [], _∷_}
 use Prim.Native.Nat.{ℕ, _-_, _%_}
 use lib.Dec.{eqb}
+use borrow.Author.Tests.{ne-eqb}
 use lib.ListN.{length, take, drop}
 use Rattle.layout.specs.Layout.{LastText, lines, linesFrom}
 use Rattle.layout.specs.Text.{part}
@@ -25,31 +26,31 @@ use Rattle.lockgraph.specs.declared.verdicts.VerdictAnswer.{VerdictAnswer}
 use Rattle.lockgraph.specs.declared.verdicts.VerdictAnswer.the-variants as Judging
 use Rattle.lockgraph.specs.Demands.{SnapshotMeans, TableDemand2, TableDemand3, VerdictDemand2, VerdictDemand3}
 use Rattle.lockgraph.specs.Outcomes.{BookIs, ListIs, SnapshotIs, TableIs, partOf, verdictOf}
-use Rattle.lockgraph_c.specs.Told.{BookTold, GoalTold, ListTold, SnapshotTold, TableTold, VerdictTold, bookNumber, bookNumbers, listNumber, listNumbers, snapshotNumber, snapshotNumbers, tableNumber, tableNumbers, verdictNumber, verdictNumbers, writtenLast}
+use Rattle.lockgraph_c.specs.Told.{BookTold, GoalTold, ListTold, SnapshotTold, TableTold, VerdictTold, bookNumber, bookNumbers, goalNumbers, listNumber, listNumbers, snapshotNumber, snapshotNumbers, tableNumber, tableNumbers, verdictNumber, verdictNumbers, writtenLast}
 
 -- ---- Table
 
-module _ {s : List ℕ} {r : ℕ} {first second first′ second′ : List ℕ} {o : TableAnswer} (is : TableIs s r first second o first′ second′) (closed : TableDemand2 s r o first′ second′)
+module _ {s : List ℕ} {r : ℕ} {first second out first′ second′ : List ℕ} {o : TableAnswer} (is : TableIs s r first second o first′ second′) (closed : TableDemand2 s r o first′ second′)
     (whole : TableDemand3 s r o first′ second′) where
-  pub table-refused : {k : ℕ} → o ≡ Table.Refused k → TableTold s r first second k (0 ∷ 0 ∷ 0 ∷ 0 ∷ 0 ∷ []) first′ second′
+  pub table-refused : {k : ℕ} → o ≡ Table.Refused k → TableTold s r first second out k first′ second′ out
   table-refused e = record {
     answer = o;
     is = is;
     closed = closed;
     whole = whole;
     number = sym (ap tableNumber e);
-    numbers = sym (ap tableNumbers e);
+    numbers = sym (ap (λ a. tableNumbers a out) e);
   }
 
   pub table-done : {w start left rounds last : ℕ} → o ≡ Table.Done w start left rounds → last ≡ writtenLast rounds
-      → TableTold s r first second 0 (w ∷ start ∷ left ∷ rounds ∷ last ∷ []) first′ second′
+      → TableTold s r first second out 0 first′ second′ (w ∷ start ∷ left ∷ rounds ∷ last ∷ [])
   table-done {w} {start} {left} {rounds} {last} e l = record {
     answer = o;
     is = is;
     closed = closed;
     whole = whole;
     number = sym (ap tableNumber e);
-    numbers = ap (λ q. w ∷ start ∷ left ∷ rounds ∷ q ∷ []) l ∙ sym (ap tableNumbers e);
+    numbers = ap (λ q. w ∷ start ∷ left ∷ rounds ∷ q ∷ []) l ∙ sym (ap (λ a. tableNumbers a out) e);
   }
 
 -- the number of a store against the choice that `partOf` makes
@@ -64,66 +65,69 @@ part-told w start left rounds first second = chosen (eqb (rounds % 2) 0) (take w
 
 -- ---- Book
 
-module _ {s d d′ : List ℕ} {o : BookAnswer} (is : BookIs s d o d′) where
-  pub book-refused : {k : ℕ} → o ≡ Book.Refused k → BookTold s d k (0 ∷ 0 ∷ []) d′
-  book-refused e = record { answer = o; is = is; number = sym (ap bookNumber e); numbers = sym (ap bookNumbers e) }
+module _ {s d out d′ : List ℕ} {o : BookAnswer} (is : BookIs s d o d′) where
+  pub book-refused : {k : ℕ} → o ≡ Book.Refused k → BookTold s d out k d′ out
+  book-refused e = record { answer = o; is = is; number = sym (ap bookNumber e); numbers = sym (ap (λ a. bookNumbers a out) e) }
 
-  pub book-done : {n w : ℕ} → o ≡ Book.Done n w → BookTold s d 0 (n ∷ w ∷ []) d′
-  book-done e = record { answer = o; is = is; number = sym (ap bookNumber e); numbers = sym (ap bookNumbers e) }
+  pub book-done : {n w : ℕ} → o ≡ Book.Done n w → BookTold s d out 0 d′ (n ∷ w ∷ [])
+  book-done e = record { answer = o; is = is; number = sym (ap bookNumber e); numbers = sym (ap (λ a. bookNumbers a out) e) }
 
 -- ---- List
 
-module _ {s : List ℕ} {r : ℕ} {d d′ : List ℕ} {o : ListAnswer} (is : ListIs s r d o d′) where
-  pub list-refused : {k : ℕ} → o ≡ Listing.Refused k → ListTold s r d k (0 ∷ []) d′
-  list-refused e = record { answer = o; is = is; number = sym (ap listNumber e); numbers = sym (ap listNumbers e) }
+module _ {s : List ℕ} {r : ℕ} {d out d′ : List ℕ} {o : ListAnswer} (is : ListIs s r d o d′) where
+  pub list-refused : {k : ℕ} → o ≡ Listing.Refused k → ListTold s r d out k d′ out
+  list-refused e = record { answer = o; is = is; number = sym (ap listNumber e); numbers = sym (ap (λ a. listNumbers a out) e) }
 
-  pub list-done : {n : ℕ} → o ≡ Listing.Done n → ListTold s r d 0 (n ∷ []) d′
-  list-done e = record { answer = o; is = is; number = sym (ap listNumber e); numbers = sym (ap listNumbers e) }
+  pub list-done : {n : ℕ} → o ≡ Listing.Done n → ListTold s r d out 0 d′ (n ∷ [])
+  list-done e = record { answer = o; is = is; number = sym (ap listNumber e); numbers = sym (ap (λ a. listNumbers a out) e) }
 
 -- ---- Verdict
 
-told-of : {s : List ℕ} {o : VerdictAnswer} {k : ℕ} {out : List ℕ} → o ≡ verdictOf s → VerdictDemand2 s o → VerdictDemand3 s o → k ≡ verdictNumber o → out ≡ verdictNumbers o → VerdictTold s k out
-told-of {s} e closed whole n ns = record {
+told-of : {s out : List ℕ} {o : VerdictAnswer} {k : ℕ} {out′ : List ℕ} → o ≡ verdictOf s → VerdictDemand2 s o → VerdictDemand3 s o → k ≡ verdictNumber o → out′ ≡ verdictNumbers o out → VerdictTold s out k out′
+told-of {s} {out} e closed whole n ns = record {
   closed = subst (VerdictDemand2 s) e closed;
   whole = subst (VerdictDemand3 s) e whole;
   number = n ∙ ap verdictNumber e;
-  numbers = ns ∙ ap verdictNumbers e;
+  numbers = ns ∙ ap (λ a. verdictNumbers a out) e;
 }
 
-module _ {s : List ℕ} {o : VerdictAnswer} (is : o ≡ verdictOf s) (closed : VerdictDemand2 s o) (whole : VerdictDemand3 s o) where
-  pub verdict-refused : {k : ℕ} → o ≡ Judging.Refused k → VerdictTold s k (0 ∷ 0 ∷ 0 ∷ [])
-  verdict-refused e = told-of is closed whole (sym (ap verdictNumber e)) (sym (ap verdictNumbers e))
+module _ {s out : List ℕ} {o : VerdictAnswer} (is : o ≡ verdictOf s) (closed : VerdictDemand2 s o) (whole : VerdictDemand3 s o) where
+  pub verdict-refused : {k : ℕ} → o ≡ Judging.Refused k → VerdictTold s out k out
+  verdict-refused e = told-of is closed whole (sym (ap verdictNumber e)) (sym (ap (λ a. verdictNumbers a out) e))
 
-  pub verdict-open : {r t : ℕ} → o ≡ Judging.Open r t → VerdictTold s 0 (1 ∷ r ∷ t ∷ [])
-  verdict-open e = told-of is closed whole (sym (ap verdictNumber e)) (sym (ap verdictNumbers e))
+  pub verdict-open : {r t : ℕ} → o ≡ Judging.Open r t → VerdictTold s out 0 (1 ∷ r ∷ t ∷ [])
+  verdict-open e = told-of is closed whole (sym (ap verdictNumber e)) (sym (ap (λ a. verdictNumbers a out) e))
 
-  pub verdict-none : o ≡ Judging.Unsatisfiable → VerdictTold s 0 (0 ∷ 0 ∷ 0 ∷ [])
-  verdict-none e = told-of is closed whole (sym (ap verdictNumber e)) (sym (ap verdictNumbers e))
+  pub verdict-none : o ≡ Judging.Unsatisfiable → VerdictTold s out 0 (2 ∷ 0 ∷ 0 ∷ [])
+  verdict-none e = told-of is closed whole (sym (ap verdictNumber e)) (sym (ap (λ a. verdictNumbers a out) e))
 
 -- ---- Snapshot
 
-module _ {s t row row′ : List ℕ} {o : SnapshotAnswer} (is : SnapshotIs s t row o row′) (means : SnapshotMeans s t o row′) where
-  pub snapshot-refused : {k : ℕ} → o ≡ Judged.Refused k → SnapshotTold s t row k (0 ∷ []) row′
-  snapshot-refused e = record { answer = o; is = is; means = means; number = sym (ap snapshotNumber e); numbers = sym (ap snapshotNumbers e) }
+module _ {s t row out row′ : List ℕ} {o : SnapshotAnswer} (is : SnapshotIs s t row o row′) (means : SnapshotMeans s t o row′) where
+  pub snapshot-refused : {k : ℕ} → o ≡ Judged.Refused k → SnapshotTold s t row out k row′ out
+  snapshot-refused e = record { answer = o; is = is; means = means; number = sym (ap snapshotNumber e); numbers = sym (ap (λ a. snapshotNumbers a out) e) }
 
-  pub snapshot-done : {n : ℕ} → o ≡ Judged.Done n → SnapshotTold s t row 0 (n ∷ []) row′
-  snapshot-done e = record { answer = o; is = is; means = means; number = sym (ap snapshotNumber e); numbers = sym (ap snapshotNumbers e) }
+  pub snapshot-done : {n : ℕ} → o ≡ Judged.Done n → SnapshotTold s t row out 0 row′ (n ∷ [])
+  snapshot-done e = record { answer = o; is = is; means = means; number = sym (ap snapshotNumber e); numbers = sym (ap (λ a. snapshotNumbers a out) e) }
 
 -- ---- the goal's text
 
-goal-by : (s : List ℕ) {k start long : ℕ} → k ≡ refusalOf s → start ≡ goalStart s k → take long (drop start s) ≡ goalUnder s k → long ≡ length (goalUnder s k) → GoalTold s k (start ∷ long ∷ [])
-goal-by s e a g l = record {
+goal-by : (s : List ℕ) {out out′ : List ℕ} {k start long : ℕ} → k ≡ refusalOf s → out′ ≡ goalNumbers s k out → start ≡ goalStart s k → take long (drop start s) ≡ goalUnder s k
+    → long ≡ length (goalUnder s k) → GoalTold s out k out′
+goal-by s {out} e n a g l = record {
   number = e;
-  numbers = ap₂ (λ x y. x ∷ y ∷ []) a l ∙ ap (λ q. goalStart s q ∷ length (goalUnder s q) ∷ []) e;
+  numbers = n ∙ ap (λ q. goalNumbers s q out) e;
   lies = subst (λ q. goalUnder s q ≡ take (length (goalUnder s q)) (drop (goalStart s q) s)) e (sym g ∙ ap₂ (λ x y. take x (drop y s)) l a);
 }
 
-pub goal-none : (s : List ℕ) {k : ℕ} → k ≡ refusalOf s → (k ≡ 0 → ⊥) → GoalTold s k (0 ∷ 0 ∷ [])
-goal-none s {k} e n = goal-by s e (start-refused s k n) (goal-refused s k n) (ap length (goal-refused s k n))
+pub goal-none : (s : List ℕ) {out : List ℕ} {k : ℕ} → k ≡ refusalOf s → (k ≡ 0 → ⊥) → GoalTold s out k out
+goal-none s {out} {k} e n = goal-by s e (rw (ne-eqb k 0 n)) (start-refused s k n) (goal-refused s k n) (ap length (goal-refused s k n))
 
-pub goal-there : (s : List ℕ) {k : ℕ} (from : ℕ) (r : Span) → k ≡ refusalOf s → k ≡ 0 → linesFrom s from ≡ drop 2 (lines s) → LastText s from r
-    → GoalTold s 0 (r .start ∷ (r .end - r .start) ∷ [])
-goal-there s {k} from r e z q l =
+pub goal-there : (s : List ℕ) {out : List ℕ} {k : ℕ} (from : ℕ) (r : Span) → k ≡ refusalOf s → k ≡ 0 → linesFrom s from ≡ drop 2 (lines s) → LastText s from r
+    → GoalTold s out k (r .start ∷ (r .end - r .start) ∷ [])
+goal-there s {out} {k} from r e z q l =
     let none : 0 ≡ refusalOf s = sym z ∙ e in
     let g : part s (r .start) (r .end) ≡ goalUnder s 0 = goal-is s (part s (r .start) (r .end)) 0 from refl q (l .is) in
-    goal-by s none (goal-place s 0 from r refl q l (layout-within 64 8 s (sym none))) g (sym (part-length s (r .start) (r .end) (l .inside)) ∙ ap length g)
+    let a : r .start ≡ goalStart s 0 = goal-place s 0 from r refl q l (layout-within 64 8 s (sym none)) in
+    let long : r .end - r .start ≡ length (goalUnder s 0) = sym (part-length s (r .start) (r .end) (l .inside)) ∙ ap length g in
+    subst (λ q. GoalTold s out q (r .start ∷ (r .end - r .start) ∷ [])) (sym z) (goal-by s none (ap₂ (λ x y. x ∷ y ∷ []) a long) a g long)

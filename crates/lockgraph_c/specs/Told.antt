@@ -1,4 +1,4 @@
--- What a caller in C is told of each answer of the library: the refusal's number, or 0, and the numbers in the lent array, which are all 0 with a refusal. Assumes nothing.
+-- What a caller in C is told of each answer of the library: the refusal's number, or 0, and what the lent array `out` then holds, which is what it held before where the answer is a refusal. Assumes nothing.
 use mathlib.Core.Path.{_≡_}
 use mathlib.Core.Bool.{cond}
 use mathlib.Core.List.{List, [], _∷_}
@@ -30,18 +30,19 @@ tableNumber (Table.Done words start left rounds) = 0
 abbrev pub writtenLast : ℕ → ℕ
 writtenLast rounds = cond (eqb (rounds % 2) 0) 2 1
 
-abbrev pub tableNumbers : TableAnswer → List ℕ
-tableNumbers (Table.Refused k) = 0 ∷ 0 ∷ 0 ∷ 0 ∷ 0 ∷ []
-tableNumbers (Table.Done words start left rounds) = words ∷ start ∷ left ∷ rounds ∷ writtenLast rounds ∷ []
+-- what `out` holds then, of what it held before
+abbrev pub tableNumbers : TableAnswer → List ℕ → List ℕ
+tableNumbers (Table.Refused k) out = out
+tableNumbers (Table.Done words start left rounds) out = words ∷ start ∷ left ∷ rounds ∷ writtenLast rounds ∷ []
 
--- k and out are told of the one answer that the library gives, and the stores are as it leaves them
-pub record TableTold (s : List ℕ) (r : ℕ) (first second : List ℕ) (k : ℕ) (out first′ second′ : List ℕ) : Type 0 where
+-- k and out′ are told of the one answer that the library gives, and the stores are as it leaves them
+pub record TableTold (s : List ℕ) (r : ℕ) (first second out : List ℕ) (k : ℕ) (first′ second′ out′ : List ℕ) : Type 0 where
   pub answer : TableAnswer
   pub is : TableIs s r first second answer first′ second′
   pub closed : TableDemand2 s r answer first′ second′
   pub whole : TableDemand3 s r answer first′ second′
   pub number : k ≡ tableNumber answer
-  pub numbers : out ≡ tableNumbers answer
+  pub numbers : out′ ≡ tableNumbers answer out
 
 -- ---- Book
 
@@ -49,15 +50,15 @@ abbrev pub bookNumber : BookAnswer → ℕ
 bookNumber (Book.Refused k) = k
 bookNumber (Book.Done namings words) = 0
 
-abbrev pub bookNumbers : BookAnswer → List ℕ
-bookNumbers (Book.Refused k) = 0 ∷ 0 ∷ []
-bookNumbers (Book.Done namings words) = namings ∷ words ∷ []
+abbrev pub bookNumbers : BookAnswer → List ℕ → List ℕ
+bookNumbers (Book.Refused k) out = out
+bookNumbers (Book.Done namings words) out = namings ∷ words ∷ []
 
-pub record BookTold (s d : List ℕ) (k : ℕ) (out d′ : List ℕ) : Type 0 where
+pub record BookTold (s d out : List ℕ) (k : ℕ) (d′ out′ : List ℕ) : Type 0 where
   pub answer : BookAnswer
   pub is : BookIs s d answer d′
   pub number : k ≡ bookNumber answer
-  pub numbers : out ≡ bookNumbers answer
+  pub numbers : out′ ≡ bookNumbers answer out
 
 -- ---- List
 
@@ -65,15 +66,15 @@ abbrev pub listNumber : ListAnswer → ℕ
 listNumber (Listing.Refused k) = k
 listNumber (Listing.Done left) = 0
 
-abbrev pub listNumbers : ListAnswer → List ℕ
-listNumbers (Listing.Refused k) = 0 ∷ []
-listNumbers (Listing.Done left) = left ∷ []
+abbrev pub listNumbers : ListAnswer → List ℕ → List ℕ
+listNumbers (Listing.Refused k) out = out
+listNumbers (Listing.Done left) out = left ∷ []
 
-pub record ListTold (s : List ℕ) (r : ℕ) (d : List ℕ) (k : ℕ) (out d′ : List ℕ) : Type 0 where
+pub record ListTold (s : List ℕ) (r : ℕ) (d out : List ℕ) (k : ℕ) (d′ out′ : List ℕ) : Type 0 where
   pub answer : ListAnswer
   pub is : ListIs s r d answer d′
   pub number : k ≡ listNumber answer
-  pub numbers : out ≡ listNumbers answer
+  pub numbers : out′ ≡ listNumbers answer out
 
 -- ---- Verdict
 
@@ -82,17 +83,17 @@ verdictNumber (Judging.Refused k) = k
 verdictNumber (Judging.Open r t) = 0
 verdictNumber Judging.Unsatisfiable = 0
 
--- 1, the naming and the type for an open goal
-abbrev pub verdictNumbers : VerdictAnswer → List ℕ
-verdictNumbers (Judging.Refused k) = 0 ∷ 0 ∷ 0 ∷ []
-verdictNumbers (Judging.Open r t) = 1 ∷ r ∷ t ∷ []
-verdictNumbers Judging.Unsatisfiable = 0 ∷ 0 ∷ 0 ∷ []
+-- 1, the naming and the type for an open goal; 2 and two zeros for an unsatisfiable one
+abbrev pub verdictNumbers : VerdictAnswer → List ℕ → List ℕ
+verdictNumbers (Judging.Refused k) out = out
+verdictNumbers (Judging.Open r t) out = 1 ∷ r ∷ t ∷ []
+verdictNumbers Judging.Unsatisfiable out = 2 ∷ 0 ∷ 0 ∷ []
 
-pub record VerdictTold (s : List ℕ) (k : ℕ) (out : List ℕ) : Type 0 where
+pub record VerdictTold (s out : List ℕ) (k : ℕ) (out′ : List ℕ) : Type 0 where
   pub closed : VerdictDemand2 s (verdictOf s)
   pub whole : VerdictDemand3 s (verdictOf s)
   pub number : k ≡ verdictNumber (verdictOf s)
-  pub numbers : out ≡ verdictNumbers (verdictOf s)
+  pub numbers : out′ ≡ verdictNumbers (verdictOf s) out
 
 -- ---- Snapshot
 
@@ -100,21 +101,25 @@ abbrev pub snapshotNumber : SnapshotAnswer → ℕ
 snapshotNumber (Judged.Refused k) = k
 snapshotNumber (Judged.Done nodes) = 0
 
-abbrev pub snapshotNumbers : SnapshotAnswer → List ℕ
-snapshotNumbers (Judged.Refused k) = 0 ∷ []
-snapshotNumbers (Judged.Done nodes) = nodes ∷ []
+abbrev pub snapshotNumbers : SnapshotAnswer → List ℕ → List ℕ
+snapshotNumbers (Judged.Refused k) out = out
+snapshotNumbers (Judged.Done nodes) out = nodes ∷ []
 
-pub record SnapshotTold (s t row : List ℕ) (k : ℕ) (out row′ : List ℕ) : Type 0 where
+pub record SnapshotTold (s t row out : List ℕ) (k : ℕ) (row′ out′ : List ℕ) : Type 0 where
   pub answer : SnapshotAnswer
   pub is : SnapshotIs s t row answer row′
   pub means : SnapshotMeans s t answer row′
   pub number : k ≡ snapshotNumber answer
-  pub numbers : out ≡ snapshotNumbers answer
+  pub numbers : out′ ≡ snapshotNumbers answer out
 
 -- ---- the goal's text
 
--- where it begins and how long it is, and that it is that part of the sheet
-pub record GoalTold (s : List ℕ) (k : ℕ) (out : List ℕ) : Type 0 where
+-- where it begins and how long it is
+abbrev pub goalNumbers : List ℕ → ℕ → List ℕ → List ℕ
+goalNumbers s k out = cond (eqb k 0) (goalStart s k ∷ length (goalUnder s k) ∷ []) out
+
+-- that is told of it, and it is that part of the sheet
+pub record GoalTold (s out : List ℕ) (k : ℕ) (out′ : List ℕ) : Type 0 where
   pub number : k ≡ refusalOf s
-  pub numbers : out ≡ goalStart s (refusalOf s) ∷ length (goalUnder s (refusalOf s)) ∷ []
+  pub numbers : out′ ≡ goalNumbers s (refusalOf s) out
   pub lies : goalUnder s (refusalOf s) ≡ take (length (goalUnder s (refusalOf s))) (drop (goalStart s (refusalOf s)) s)

@@ -1,4 +1,5 @@
-// The public library for C and Rust: each operation with its refusal's number, or 0, as the result, and its numbers through a lent array. Assumes nothing.
+// The public library for C and Rust: each operation with its refusal's number, or 0, as the result, and its numbers through a lent array, which keeps its contents with a
+// refusal. Assumes nothing.
 ghost use mathlib.Core.Path.{_≡_};
 ghost use Rattle.lockgraph_c.specs.Told.{BookTold, GoalTold, ListTold, SnapshotTold, TableTold, VerdictTold, writtenLast};
 use lockgraph::BookAnswer;
@@ -23,13 +24,10 @@ pub extern "C" fn lockgraph_table(
     second: &mut [u64],
     out: &mut [u64; 5],
 ) -> u8
-    ensures { λ k. ⌜ TableTold (now (sheet .entry)) naming (now (first .entry)) (now (second .entry)) k (now (out .exit)) (now (first .exit)) (now (second .exit)) ⌝ }
+    ensures { λ k. ⌜ TableTold (now (sheet .entry)) naming (now (first .entry)) (now (second .entry)) (now (out .entry)) k (now (first .exit)) (now (second .exit)) (now (out .exit)) ⌝ }
 {
     match lockgraph::table(sheet, naming, first, second) {
-        TableAnswer::Refused(k) => {
-            *out = [0, 0, 0, 0, 0];
-            k
-        }
+        TableAnswer::Refused(k) => k,
         TableAnswer::Done {
             words,
             start,
@@ -46,13 +44,10 @@ pub extern "C" fn lockgraph_table(
 // The surviving types under every naming. Through `out`: how many namings there are, and how many words for each.
 #[no_mangle]
 pub extern "C" fn lockgraph_book(sheet: &[u8], store: &mut [u64], out: &mut [u64; 2]) -> u8
-    ensures { λ k. ⌜ BookTold (now (sheet .entry)) (now (store .entry)) k (now (out .exit)) (now (store .exit)) ⌝ }
+    ensures { λ k. ⌜ BookTold (now (sheet .entry)) (now (store .entry)) (now (out .entry)) k (now (store .exit)) (now (out .exit)) ⌝ }
 {
     match lockgraph::book(sheet, store) {
-        BookAnswer::Refused(k) => {
-            *out = [0, 0];
-            k
-        }
+        BookAnswer::Refused(k) => k,
         BookAnswer::Done { namings, words } => {
             *out = [namings, words as u64];
             0
@@ -68,13 +63,10 @@ pub extern "C" fn lockgraph_list(
     store: &mut [u16],
     out: &mut [u64; 1],
 ) -> u8
-    ensures { λ k. ⌜ ListTold (now (sheet .entry)) naming (now (store .entry)) k (now (out .exit)) (now (store .exit)) ⌝ }
+    ensures { λ k. ⌜ ListTold (now (sheet .entry)) naming (now (store .entry)) (now (out .entry)) k (now (store .exit)) (now (out .exit)) ⌝ }
 {
     match lockgraph::list(sheet, naming, store) {
-        ListAnswer::Refused(k) => {
-            *out = [0];
-            k
-        }
+        ListAnswer::Refused(k) => k,
         ListAnswer::Done { left } => {
             *out = [left as u64];
             0
@@ -82,22 +74,19 @@ pub extern "C" fn lockgraph_list(
     }
 }
 
-// Whether the goal is open or unsatisfiable. Through `out`: 1, the naming and the type where it is open; 0, 0, 0 where it is not.
+// Whether the goal is open or unsatisfiable. Through `out`: 1, the naming and the type where it is open; 2, 0, 0 where it is unsatisfiable.
 #[no_mangle]
 pub extern "C" fn lockgraph_verdict(sheet: &[u8], out: &mut [u64; 3]) -> u8
-    ensures { λ k. ⌜ VerdictTold (now (sheet .entry)) k (now (out .exit)) ⌝ }
+    ensures { λ k. ⌜ VerdictTold (now (sheet .entry)) (now (out .entry)) k (now (out .exit)) ⌝ }
 {
     match lockgraph::verdict(sheet) {
-        VerdictAnswer::Refused(k) => {
-            *out = [0, 0, 0];
-            k
-        }
+        VerdictAnswer::Refused(k) => k,
         VerdictAnswer::Open { naming, least } => {
             *out = [1, naming, least as u64];
             0
         }
         VerdictAnswer::Unsatisfiable => {
-            *out = [0, 0, 0];
+            *out = [2, 0, 0];
             0
         }
     }
@@ -111,13 +100,10 @@ pub extern "C" fn lockgraph_snapshot(
     row: &mut [u8],
     out: &mut [u64; 1],
 ) -> u8
-    ensures { λ k. ⌜ SnapshotTold (now (sheet .entry)) (now (text .entry)) (now (row .entry)) k (now (out .exit)) (now (row .exit)) ⌝ }
+    ensures { λ k. ⌜ SnapshotTold (now (sheet .entry)) (now (text .entry)) (now (row .entry)) (now (out .entry)) k (now (row .exit)) (now (out .exit)) ⌝ }
 {
     match lockgraph::snapshot(sheet, text, row) {
-        SnapshotAnswer::Refused(k) => {
-            *out = [0];
-            k
-        }
+        SnapshotAnswer::Refused(k) => k,
         SnapshotAnswer::Done { nodes } => {
             *out = [nodes as u64];
             0
@@ -125,21 +111,20 @@ pub extern "C" fn lockgraph_snapshot(
     }
 }
 
-// The goal's text, a part of the sheet. Through `out`: where it begins, and how many bytes it has; 0, 0 with a refusal.
+// The goal's text, a part of the sheet. Through `out`: where it begins, and how many bytes it has.
 #[no_mangle]
 pub extern "C" fn lockgraph_goal(sheet: &[u8], out: &mut [u64; 2]) -> u8
-    ensures { λ k. ⌜ GoalTold (now (sheet .entry)) k (now (out .exit)) ⌝ }
+    ensures { λ k. ⌜ GoalTold (now (sheet .entry)) (now (out .entry)) k (now (out .exit)) ⌝ }
 {
     let reading = reader::read(sheet);
     let refusal = reading.refusal;
     let k = reader::number(refusal);
-    if k != 0 {
-        *out = [0, 0];
+    if 0 < k {
         return k;
     }
     let goal = layout::last_text(sheet, layout::third_line(sheet));
     let start = goal.start;
     let long = goal.end - start;
     *out = [start as u64, long as u64];
-    0
+    k
 }

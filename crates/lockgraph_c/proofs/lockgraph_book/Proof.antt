@@ -18,9 +18,9 @@ same-length c = search needs
 
 returns : tie.Need-returns
 returns c =
-    let b2 = c .before .before in
-    let b6 = b2 .before .before .before .before in
-    book-refused (b6 .book .ensures) (b2 .k .given .1)
+    let b1 = c .before in
+    let b5 = b1 .before .before .before .before in
+    book-refused (b5 .book .ensures) (b1 .k .given .1)
 
 same-length-2 : tie.Need-same-length-2
 same-length-2 c = search needs

@@ -1,5 +1,6 @@
 -- `lockgraph_goal` meets its contract. Assumes nothing.
 use mathlib.Core.Path.{_∙_}
+use native.Mathlib.Omega.{arith}
 use Rattle.lockgraph_c.proofs.ToldLaws.{goal-none, goal-there}
 use borrow.Author.Needs.{needs}
 use Rattle.lockgraph_c.proofs.lockgraph_goal.Statement.{statement}
@@ -15,8 +16,7 @@ returns : tie.Need-returns
 returns c =
     let b1 = c .before in
     let b2 = b1 .before in
-    let b3 = b2 .before in
-    goal-none _ (b2 .number .ensures ∙ b3 .read .ensures .is) (b1 .if1 .taken)
+    goal-none _ (b1 .number .ensures ∙ b2 .read .ensures .is) (λ z. omega (arith, z, c .if1 .taken))
 
 third-line-requires : tie.Need-third-line-requires
 third-line-requires c κs = search needs
@@ -34,7 +34,7 @@ returns-2 c =
     let b4 = b3 .before in
     let b5 = b4 .before in
     let b6 = b5 .before in
-    goal-there _ _ _ (b5 .number .ensures ∙ b6 .read .ensures .is) (b4 .if1 .left) (b3 .third-line .ensures .1) (b2 .last-text .ensures)
+    goal-there _ _ _ (b5 .number .ensures ∙ b6 .read .ensures .is) (omega (arith, b4 .if1 .left)) (b3 .third-line .ensures .1) (b2 .last-text .ensures)
 
 pub lockgraph-goal-spec : {M : Type 1} → statement M
 lockgraph-goal-spec =

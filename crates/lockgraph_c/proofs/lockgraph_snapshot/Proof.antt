@@ -18,9 +18,9 @@ same-length c = search needs
 
 returns : tie.Need-returns
 returns c =
-    let b2 = c .before .before in
-    let b6 = b2 .before .before .before .before in
-    snapshot-refused (b6 .snapshot .ensures .0) (b6 .snapshot .ensures .1) (b2 .k .given .1)
+    let b1 = c .before in
+    let b5 = b1 .before .before .before .before in
+    snapshot-refused (b5 .snapshot .ensures .0) (b5 .snapshot .ensures .1) (b1 .k .given .1)
 
 same-length-2 : tie.Need-same-length-2
 same-length-2 c = search needs

@@ -24,9 +24,9 @@ same-length-2 c = search needs
 
 returns : tie.Need-returns
 returns c =
-    let b2 = c .before .before in
-    let b8 = b2 .before .before .before .before .before .before in
-    table-refused (b8 .table .ensures .0) (b8 .table .ensures .1 .0) (b8 .table .ensures .1 .1) (b2 .k .given .1)
+    let b1 = c .before in
+    let b7 = b1 .before .before .before .before .before .before in
+    table-refused (b7 .table .ensures .0) (b7 .table .ensures .1 .0) (b7 .table .ensures .1 .1) (b1 .k .given .1)
 
 same-length-3 : tie.Need-same-length-3
 same-length-3 c = search needs

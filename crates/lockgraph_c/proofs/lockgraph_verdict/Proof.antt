@@ -18,9 +18,9 @@ enum-told c = search needs
 
 returns : tie.Need-returns
 returns c =
-    let b2 = c .before .before in
-    let b4 = b2 .before .before in
-    verdict-refused (b4 .verdict .ensures .0) (b4 .verdict .ensures .1 .0) (b4 .verdict .ensures .1 .1) (b2 .k .given .1)
+    let b1 = c .before in
+    let b3 = b1 .before .before in
+    verdict-refused (b3 .verdict .ensures .0) (b3 .verdict .ensures .1 .0) (b3 .verdict .ensures .1 .1) (b1 .k .given .1)
 
 returns-2 : tie.Need-returns-2
 returns-2 c =
