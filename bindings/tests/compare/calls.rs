@@ -1,6 +1,7 @@
 //! The calls about one sheet, and how the two answers are compared.
 
-use super::second::Second;
+use super::rules;
+use super::second::{Second, Table};
 use super::seen::Seen;
 use super::sheets::Sheet;
 use super::stores::Stores;
@@ -21,7 +22,7 @@ pub fn ask(
     seen: &mut Seen,
 ) -> Vec<String> {
     let lent = sheet.bytes.clone();
-    let read = accept(&sheet.bytes);
+    let read = accept(rules(), &sheet.bytes);
     let (namings, words) = read
         .as_ref()
         .map_or((1, 1), |accepted| (accepted.namings(), accepted.words()));
@@ -219,7 +220,7 @@ fn unlike<G: Debug, E: Debug>(
 /// The words are to be those at the beginning of the store that the second checker hands back.
 fn same_table(
     got: &lockgraph::Table,
-    expected: &second_checker::Table,
+    expected: &Table,
     (first, second): (*const u64, *const u64),
 ) -> bool {
     let (store, start) = match expected.handed_back {

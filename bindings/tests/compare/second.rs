@@ -4,17 +4,29 @@
 //! is struck once, by the second checker's own functions; an answer is then put together from these. Where `twice` is set each answer is
 //! compared with that of its operation, called with the same arguments, and a difference stops everything: the memory would be wrong.
 
+use super::rules;
 use second_checker::closure::Accepted;
 use second_checker::tableau::{Striking, Tableau};
-use second_checker::{Refusal, Store, Table, Verdict};
+use second_checker::typeset::TypeSet;
+use second_checker::{snapshot, stores, Refusal, Store, Verdict};
 use std::collections::HashMap;
 use std::fmt::Debug;
+
+/// What Table gives, with the words that both stores then begin with.
+#[derive(Clone, Debug, PartialEq, Eq)]
+pub struct Table {
+    pub words: Vec<u64>,
+    pub handed_back: Store,
+    pub start: usize,
+    pub left: usize,
+    pub rounds: usize,
+}
 
 pub struct Second<'a> {
     sheet: &'a [u8],
     read: &'a Result<Accepted<'a>, Refusal>,
     tableau: Option<Tableau<'a>>,
-    strikings: HashMap<u64, Striking>,
+    strikings: HashMap<u64, (Striking, TypeSet)>,
     twice: bool,
 }
 
@@ -35,35 +47,43 @@ impl<'a> Second<'a> {
 
     pub fn table(&mut self, naming: u64, first: usize, second: usize) -> Result<Table, Refusal> {
         let answer = self.remembered_table(naming, first.min(second));
-        self.confirmed(answer, |sheet| {
-            second_checker::table(sheet, naming, first, second)
-        })
+        self.confirmed(answer, |sheet| asked_table(sheet, naming, first, second))
     }
 
     pub fn book(&mut self, length: usize) -> Result<Vec<u64>, Refusal> {
         let answer = self.remembered_book(length);
-        self.confirmed(answer, |sheet| second_checker::book(sheet, length))
+        self.confirmed(answer, |sheet| {
+            let mut store = stores::words(length).elements;
+            let count = second_checker::book(rules(), sheet, &mut store)?;
+            Ok(store[..count].to_vec())
+        })
     }
 
     pub fn list(&mut self, naming: u64, length: usize) -> Result<Vec<u16>, Refusal> {
         let answer = self.remembered_list(naming, length);
-        self.confirmed(answer, |sheet| second_checker::list(sheet, naming, length))
+        self.confirmed(answer, |sheet| {
+            let mut store = stores::numbers(length).elements;
+            let count = second_checker::list(rules(), sheet, naming, &mut store)?;
+            Ok(store[..count].to_vec())
+        })
     }
 
     pub fn verdict(&mut self) -> Result<Verdict, Refusal> {
         let answer = self.remembered_verdict();
-        self.confirmed(answer, second_checker::verdict)
+        self.confirmed(answer, |sheet| second_checker::verdict(rules(), sheet, 1))
     }
 
     pub fn goal_text(&self) -> Result<&'a [u8], Refusal> {
-        let answer = self.accepted().map(|accepted| accepted.sheet.goal_text);
-        self.confirmed(answer, second_checker::goal_text)
+        let answer = self.accepted().map(|accepted| accepted.sheet.goal_texts[0]);
+        self.confirmed(answer, |sheet| second_checker::goal_text(rules(), sheet, 1))
     }
 
     pub fn snapshot(&self, text: &[u8], length: usize) -> Result<Vec<u8>, Refusal> {
         let answer = self.remembered_snapshot(text, length);
         self.confirmed(answer, |sheet| {
-            second_checker::snapshot(sheet, text, length)
+            let mut row = stores::bytes(length).elements;
+            let nodes = second_checker::snapshot(rules(), sheet, text, &mut row)?;
+            Ok(row[..nodes].to_vec())
         })
     }
 
@@ -75,13 +95,14 @@ impl<'a> Second<'a> {
 
     /// How many types stand under a naming of the sheet; 0 where it has no such naming.
     pub fn left(&mut self, naming: u64) -> usize {
-        self.striking(naming).map_or(0, |striking| striking.left())
+        self.striking(naming)
+            .map_or(0, |(striking, _)| striking.left)
     }
 
     /// How many nodes a snapshot has; 0 where it is refused.
     pub fn nodes(&self, text: &[u8]) -> usize {
         self.accepted()
-            .and_then(|accepted| second_checker::snapshot::read(text, &accepted.sheet))
+            .and_then(|accepted| snapshot::read(text, &accepted.sheet))
             .map_or(0, |snapshot| snapshot.nodes())
     }
 
@@ -104,8 +125,8 @@ impl<'a> Second<'a> {
         answer
     }
 
-    /// The striking under a naming, or refusal 11.
-    fn striking(&mut self, naming: u64) -> Result<&Striking, Refusal> {
+    /// The striking under a naming with its standing types, or refusal 11.
+    fn striking(&mut self, naming: u64) -> Result<&(Striking, TypeSet), Refusal> {
         let accepted = self.accepted()?;
         if naming >= accepted.namings() {
             return Err(11);
@@ -114,20 +135,21 @@ impl<'a> Second<'a> {
         Ok(self
             .strikings
             .entry(naming)
-            .or_insert_with(|| tableau.strike(naming)))
+            .or_insert_with(|| tableau.standing(naming)))
     }
 
     fn remembered_table(&mut self, naming: u64, shorter: usize) -> Result<Table, Refusal> {
-        let striking = self.striking(naming)?;
-        if shorter < 4 {
+        let needed = self.accepted()?.limits.table_words();
+        let (striking, standing) = self.striking(naming)?;
+        if shorter < needed {
             return Err(12);
         }
         Ok(Table {
-            words: striking.words(),
+            words: standing.words.clone(),
             // The start is in the first store, and each round writes the other one, also the last, which is not counted.
             handed_back: [Store::Second, Store::First][striking.rounds % 2],
             start: striking.start,
-            left: striking.left(),
+            left: striking.left,
             rounds: striking.rounds,
         })
     }
@@ -140,15 +162,15 @@ impl<'a> Second<'a> {
         }
         let mut words = Vec::new();
         for naming in 0..namings {
-            words.extend(self.striking(naming)?.words());
+            words.extend(&self.striking(naming)?.1.words);
         }
         Ok(words)
     }
 
     fn remembered_list(&mut self, naming: u64, length: usize) -> Result<Vec<u16>, Refusal> {
-        let types = self.striking(naming)?.standing_types();
+        let types = self.striking(naming)?.1.members();
         if types.len() <= length {
-            Ok(types)
+            Ok(types.into_iter().map(|type_| type_ as u16).collect())
         } else {
             Err(12)
         }
@@ -156,9 +178,9 @@ impl<'a> Second<'a> {
 
     fn remembered_verdict(&mut self) -> Result<Verdict, Refusal> {
         for naming in 0..self.accepted()?.namings() {
-            let striking = self.striking(naming)?.clone();
+            let standing = self.striking(naming)?.1.clone();
             let tableau = self.tableau.as_ref().expect("made for the striking");
-            if let Some(type_) = tableau.least_goal_type(&striking) {
+            if let Some(type_) = tableau.least_goal_type(0, &standing) {
                 let type_ = type_ as u16;
                 return Ok(Verdict::Open { naming, type_ });
             }
@@ -168,19 +190,28 @@ impl<'a> Second<'a> {
 
     fn remembered_snapshot(&self, text: &[u8], length: usize) -> Result<Vec<u8>, Refusal> {
         let accepted = self.accepted()?;
-        let sheet = &accepted.sheet;
-        let snapshot = second_checker::snapshot::read(text, sheet)?;
+        let snapshot = snapshot::read(text, &accepted.sheet)?;
         if length < snapshot.nodes() {
             return Err(16);
         }
-        let goal = snapshot.holds(&accepted.written_goal, sheet);
-        let globals: Vec<Vec<bool>> = accepted
-            .written_globals
-            .iter()
-            .map(|global| snapshot.holds(global, sheet))
-            .collect();
-        let byte =
-            |node: usize| u8::from(goal[node]) + 2 * u8::from(globals.iter().all(|g| g[node]));
-        Ok((0..snapshot.nodes()).map(byte).collect())
+        Ok(snapshot.row(accepted))
     }
+}
+
+/// Table with stores of these lengths.
+fn asked_table(sheet: &[u8], naming: u64, first: usize, second: usize) -> Result<Table, Refusal> {
+    let (mut first, mut second) = (
+        stores::words(first).elements,
+        stores::words(second).elements,
+    );
+    let table = second_checker::table(rules(), sheet, naming, &mut first, &mut second)?;
+    let words = first[..table.words].to_vec();
+    assert_eq!(words, second[..table.words], "both stores have the same");
+    Ok(Table {
+        words,
+        handed_back: table.handed_back,
+        start: table.start,
+        left: table.left,
+        rounds: table.rounds,
+    })
 }

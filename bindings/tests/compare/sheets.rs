@@ -1,5 +1,6 @@
 //! Sheets and snapshots to ask about, from the second checker's generator.
 
+use super::rules;
 use second_checker::closure::accept;
 use second_checker::generate::{self, Chance, Draft};
 use second_checker::sheet::Kind;
@@ -7,10 +8,10 @@ use second_checker::sheet::Kind;
 /// Above this a book or a verdict takes long; a few sheets have more.
 const NAMINGS: u64 = 64;
 
-/// A sheet's bytes, and letters and kinds for its snapshots.
+/// A sheet's bytes, and symbols and kinds for its snapshots.
 pub struct Sheet {
     pub bytes: Vec<u8>,
-    pub letters: Vec<u8>,
+    pub symbols: Vec<String>,
     pub kinds: Vec<Kind>,
 }
 
@@ -18,22 +19,22 @@ impl Sheet {
     fn of(draft: &Draft) -> Sheet {
         Sheet {
             bytes: draft.bytes(),
-            letters: draft.letters.clone(),
+            symbols: draft.symbols.clone(),
             kinds: draft.kinds.clone(),
         }
     }
 
     /// So of a refused sheet too.
     fn has_at_most(&self, namings: u64) -> bool {
-        accept(&self.bytes).map_or(true, |accepted| accepted.namings() <= namings)
+        accept(rules(), &self.bytes).map_or(true, |accepted| accepted.namings() <= namings)
     }
 
     /// A snapshot's text, damaged one time in three.
     pub fn picture(&self, c: &mut Chance) -> Vec<u8> {
         if c.one_in(3) {
-            generate::damaged_picture(c, &self.letters, &self.kinds).0
+            generate::damaged_picture(c, &self.symbols, &self.kinds).0
         } else {
-            generate::picture(c, &self.letters, &self.kinds).bytes()
+            generate::picture(c, &self.symbols, &self.kinds).bytes()
         }
     }
 }
@@ -72,7 +73,7 @@ fn pressed(c: &mut Chance) -> Sheet {
     ];
     loop {
         let sheet = Sheet::of(&generate::pressed(c, &SHAPES));
-        if accept(&sheet.bytes).is_ok() && sheet.has_at_most(NAMINGS) {
+        if accept(rules(), &sheet.bytes).is_ok() && sheet.has_at_most(NAMINGS) {
             return sheet;
         }
     }
@@ -131,13 +132,13 @@ fn some_bytes(c: &mut Chance) -> Vec<u8> {
 
 /// A formula or a sheet at the border of the first refusals.
 fn odd(c: &mut Chance) -> Sheet {
-    let letters = b"kf".to_vec();
+    let symbols = vec![String::from("k"), String::from("f")];
     let kinds = vec![Kind::Mark, Kind::Field];
     if c.one_in(3) {
         let bytes = c.pick(generate::ODD_SHEETS).as_bytes().to_vec();
         return Sheet {
             bytes,
-            letters,
+            symbols,
             kinds,
         };
     }
@@ -145,7 +146,12 @@ fn odd(c: &mut Chance) -> Sheet {
         .map(|_| c.pick(generate::ODD_FORMULAS).to_string())
         .collect();
     let (goal, globals) = formulas.split_first().expect("one or more");
-    Sheet::of(&Draft::new(letters, kinds, globals.to_vec(), goal.clone()))
+    Sheet::of(&Draft::new(
+        symbols,
+        kinds,
+        globals.to_vec(),
+        vec![goal.clone()],
+    ))
 }
 
 /// Formulas of any size: around and over the borders of closure, lean and length.

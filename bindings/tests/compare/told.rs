@@ -1,7 +1,8 @@
 //! The calls as a program in C makes them: `out` is a lent store too.
 
+use super::second::Table;
 use super::stores::Lent;
-use second_checker::{Refusal, Store, Table, Verdict};
+use second_checker::{Refusal, Store, Verdict};
 
 /// What is wrong with a call. It is to give 0, and the words of the second checker's answer in `out`; or the refusal's number, and then `out`
 /// is as it was.
