@@ -5,30 +5,15 @@ use mathlib.Core.List.{List}
 use Prim.Native.Nat.{ℕ, _≤_, _<_}
 use lib.ListN.{length, getD}
 use Rattle.ctl.specs.Positive.{signed}
+use Rattle.ctl.specs.Alphabet.{UsesRaw}
 use Rattle.ctl.specs.Closure.{closureOf}
 use Rattle.members.specs.Grown.{Answer}
-use Rattle.syntax.specs.Raw.{Raw, zero, one, sym, neg, and, or, imp, ex, ax, ef, af, eg, ag, eu, au, er, ar, At}
+use Rattle.syntax.specs.Raw.{Raw, zero, At}
 use Rattle.members.specs.declared.Added.{Added}
 
 -- every symbol and every set of modes fits a member's word
 unfoldable pub Fits : Raw → Type 0
-Fits zero = Unit {0}
-Fits one = Unit {0}
-Fits (sym k) = k < 65536
-Fits (neg p) = Fits p
-Fits (and p q) = Fits p × Fits q
-Fits (or p q) = Fits p × Fits q
-Fits (imp p q) = Fits p × Fits q
-Fits (ex A p) = (A < 65536) × Fits p
-Fits (ax A p) = (A < 65536) × Fits p
-Fits (ef A p) = (A < 65536) × Fits p
-Fits (af A p) = (A < 65536) × Fits p
-Fits (eg A p) = (A < 65536) × Fits p
-Fits (ag A p) = (A < 65536) × Fits p
-Fits (eu A p q) = (A < 65536) × Fits p × Fits q
-Fits (au A p q) = (A < 65536) × Fits p × Fits q
-Fits (er A p q) = (A < 65536) × Fits p × Fits q
-Fits (ar A p q) = (A < 65536) × Fits p × Fits q
+Fits p = UsesRaw (λ k. k < 65536) (λ A. A < 65536) p
 
 -- a formula stands at place i of a table of nodes
 pub record Reads (ns : List ℕ) (i : ℕ) : Type 0 where

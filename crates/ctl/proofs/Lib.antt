@@ -4,6 +4,7 @@ pub mod NumberLaws
 pub mod FormulaLaws
 pub mod ModeLaws
 pub mod ClosureLaws
+pub mod UsesLaws
 pub mod OverLaws
 pub mod PrintLaws
 pub mod SortLaws

@@ -14,6 +14,42 @@ pub record Alphabet (letter : ℕ → ℕ) (count : ℕ) : Type 0 where
   pub high : (k : ℕ) → k < count → letter k ≤ 122
   pub different : (j k : ℕ) → j < count → k < count → letter j ≡ letter k → j ≡ k
 
+-- The symbols outside braces and the sets of modes that a formula has: S holds of each symbol, M of each set
+module _ (S M : ℕ → Type 0) where
+  abbrev pub Uses : Form → Type 0
+  Uses tru = Unit {0}
+  Uses fls = Unit {0}
+  Uses (lit k) = S k
+  Uses (nlit k) = S k
+  Uses (and p q) = Uses p × Uses q
+  Uses (or p q) = Uses p × Uses q
+  Uses (ex A p) = M A × Uses p
+  Uses (ax A p) = M A × Uses p
+  Uses (eu A p q) = M A × Uses p × Uses q
+  Uses (au A p q) = M A × Uses p × Uses q
+  Uses (er A p q) = M A × Uses p × Uses q
+  Uses (ar A p q) = M A × Uses p × Uses q
+
+  -- the same of a formula as typed
+  abbrev pub UsesRaw : Raw → Type 0
+  UsesRaw Raw.zero = Unit {0}
+  UsesRaw Raw.one = Unit {0}
+  UsesRaw (Raw.sym k) = S k
+  UsesRaw (Raw.neg p) = UsesRaw p
+  UsesRaw (Raw.and p q) = UsesRaw p × UsesRaw q
+  UsesRaw (Raw.or p q) = UsesRaw p × UsesRaw q
+  UsesRaw (Raw.imp p q) = UsesRaw p × UsesRaw q
+  UsesRaw (Raw.ex A p) = M A × UsesRaw p
+  UsesRaw (Raw.ax A p) = M A × UsesRaw p
+  UsesRaw (Raw.ef A p) = M A × UsesRaw p
+  UsesRaw (Raw.af A p) = M A × UsesRaw p
+  UsesRaw (Raw.eg A p) = M A × UsesRaw p
+  UsesRaw (Raw.ag A p) = M A × UsesRaw p
+  UsesRaw (Raw.eu A p q) = M A × UsesRaw p × UsesRaw q
+  UsesRaw (Raw.au A p q) = M A × UsesRaw p × UsesRaw q
+  UsesRaw (Raw.er A p q) = M A × UsesRaw p × UsesRaw q
+  UsesRaw (Raw.ar A p q) = M A × UsesRaw p × UsesRaw q
+
 module _ (count : ℕ) where
   -- the field of a mode is declared
   abbrev pub Declared : ℕ → Type 0
@@ -25,35 +61,7 @@ module _ (count : ℕ) where
 
   -- all symbols and fields of a formula are declared
   abbrev pub Over : Form → Type 0
-  Over tru = Unit {0}
-  Over fls = Unit {0}
-  Over (lit k) = k < count
-  Over (nlit k) = k < count
-  Over (and p q) = Over p × Over q
-  Over (or p q) = Over p × Over q
-  Over (ex A p) = DeclaredAll A × Over p
-  Over (ax A p) = DeclaredAll A × Over p
-  Over (eu A p q) = DeclaredAll A × Over p × Over q
-  Over (au A p q) = DeclaredAll A × Over p × Over q
-  Over (er A p q) = DeclaredAll A × Over p × Over q
-  Over (ar A p q) = DeclaredAll A × Over p × Over q
+  Over p = Uses (λ k. k < count) DeclaredAll p
 
-  -- the same of a formula as typed
   abbrev pub OverRaw : Raw → Type 0
-  OverRaw Raw.zero = Unit {0}
-  OverRaw Raw.one = Unit {0}
-  OverRaw (Raw.sym k) = k < count
-  OverRaw (Raw.neg p) = OverRaw p
-  OverRaw (Raw.and p q) = OverRaw p × OverRaw q
-  OverRaw (Raw.or p q) = OverRaw p × OverRaw q
-  OverRaw (Raw.imp p q) = OverRaw p × OverRaw q
-  OverRaw (Raw.ex A p) = DeclaredAll A × OverRaw p
-  OverRaw (Raw.ax A p) = DeclaredAll A × OverRaw p
-  OverRaw (Raw.ef A p) = DeclaredAll A × OverRaw p
-  OverRaw (Raw.af A p) = DeclaredAll A × OverRaw p
-  OverRaw (Raw.eg A p) = DeclaredAll A × OverRaw p
-  OverRaw (Raw.ag A p) = DeclaredAll A × OverRaw p
-  OverRaw (Raw.eu A p q) = DeclaredAll A × OverRaw p × OverRaw q
-  OverRaw (Raw.au A p q) = DeclaredAll A × OverRaw p × OverRaw q
-  OverRaw (Raw.er A p q) = DeclaredAll A × OverRaw p × OverRaw q
-  OverRaw (Raw.ar A p q) = DeclaredAll A × OverRaw p × OverRaw q
+  OverRaw p = UsesRaw (λ k. k < count) DeclaredAll p

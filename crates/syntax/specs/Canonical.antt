@@ -6,6 +6,7 @@ use lib.ListN.{getD}
 use Rattle.ctl.specs.Formula.{Form, tru, fls, lit, nlit, and, or, ex, ax, eu, au, er, ar}
 use Rattle.ctl.specs.Lists.{_∈_}
 use Rattle.ctl.specs.Modes.{modes}
+use Rattle.ctl.specs.Alphabet.{Uses}
 use Rattle.syntax.specs.Raw.{Raw}
 
 -- a positive formula as a typed one
@@ -35,15 +36,4 @@ module _ (letter : ℕ → ℕ) (decl : List ℕ) where
 
   -- each letter of a formula is declared as a mark or a name, each field of its modes as a field, and no set of modes is empty
   abbrev pub Known : Form → Type 0
-  Known tru = Unit {0}
-  Known fls = Unit {0}
-  Known (lit k) = entryFor k ≡ 1 + k
-  Known (nlit k) = entryFor k ≡ 1 + k
-  Known (and p q) = Known p × Known q
-  Known (or p q) = Known p × Known q
-  Known (ex A p) = FieldsKnown A × Known p
-  Known (ax A p) = FieldsKnown A × Known p
-  Known (eu A p q) = FieldsKnown A × Known p × Known q
-  Known (au A p q) = FieldsKnown A × Known p × Known q
-  Known (er A p q) = FieldsKnown A × Known p × Known q
-  Known (ar A p q) = FieldsKnown A × Known p × Known q
+  Known p = Uses (λ k. entryFor k ≡ 1 + k) FieldsKnown p
