@@ -1,12 +1,12 @@
--- What a sheet says: its symbols' letters and kinds, its globals and its goal as typed, or the lowest of the refusals 1 to 8. Assumes nothing.
+-- What a sheet says that is not refused: its globals and its goal as typed, a symbol's letter, and whether it is a name. Assumes nothing.
 use mathlib.Core.Bool.{Bool}
 use mathlib.Core.List.{List, [], _∷_}
-use Prim.Native.Nat.{ℕ, zero, suc}
+use Prim.Native.Nat.{ℕ}
 use lib.ListN.{getD}
 use lib.Dec.{eqb}
 use Rattle.ctl.specs.Raw.{Raw}
 use Rattle.layout.specs.Layout.{letters, kinds, texts}
-use Rattle.sheet.specs.Refusal.{decls, readRefusal}
+use Rattle.sheet.specs.Refusal.{decls}
 use Rattle.sheet.specs.Sheet.{trees}
 
 -- all formulas but the last, and the last
@@ -30,21 +30,3 @@ letterOf s k = getD (letters s) k 0
 
 abbrev pub isName : List ℕ → ℕ → Bool
 isName s k = eqb (getD (kinds s) k 0) 2
-
-pub record Contents : Type 0 where
-  pub symbols : List ℕ
-  pub kinds-of : List ℕ
-  pub globals : List Raw
-  pub goal : Raw
-
-pub data Reading : Type 0 where
-  refused : ℕ → Reading
-  says : Contents → Reading
-
-unfoldable pub readSheet : List ℕ → Reading
-unfolding readRefusal trees globalsOf goalOf
-readSheet s =
-    elim (readRefusal s) [
-      | zero ↦ says (record { symbols = letters s; kinds-of = kinds s; globals = globalsOf (formulas s); goal = goalOf (formulas s) })
-      | suc k ↦ refused (suc k)
-    ]
