@@ -3,6 +3,7 @@ pub mod SheetLaws
 pub mod PlacedLaws
 pub mod Alphabet
 pub mod RefusalLaws
-pub mod DeclaredLaws
 pub mod ConditionLaws
+pub mod FormulaTrees
+pub mod DeclaredLaws
 pub mod SizeLaws

@@ -135,3 +135,7 @@ module _ (s : List ℕ) (e : readRefusal s ≡ 0) where
   pub right-symbols : symbolsWrong s ≡ false
   unfolding conditions
   right-symbols = none (symbolsWrong s) (List·Memᴰ·tail (List·Memᴰ·tail (List·Memᴰ·tail (List·Memᴰ·tail (List·Memᴰ·tail (List·Memᴰ·tail (List·Memᴰ·head refl)))))))
+
+  pub right-braces : bracesWrong s ≡ false
+  unfolding conditions
+  right-braces = none (bracesWrong s) (List·Memᴰ·tail (List·Memᴰ·tail (List·Memᴰ·tail (List·Memᴰ·tail (List·Memᴰ·tail (List·Memᴰ·tail (List·Memᴰ·tail (List·Memᴰ·head refl))))))))

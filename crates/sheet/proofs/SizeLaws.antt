@@ -1,27 +1,26 @@
 -- The formulas of a sheet that was read, in the table: how many there are, how large they are, and where each one's own node is. Assumes nothing.
 use mathlib.Core.Path.{_≡_, refl, ap, _∙_}
 use mathlib.Core.Logic.{_⊎_, inl, inr}
-use mathlib.Core.Bool.{Bool, true, false, _&&_}
-use mathlib.Core.List.{List, [], _∷_, _++_, List·Memᴰ·head, List·Memᴰ·tail, List·Memᴰ·cases-cons, List·Memᴰ·not-nil}
+use mathlib.Core.Bool.{_&&_}
+use mathlib.Core.List.{List, [], _∷_, _++_, List·Memᴰ·cases-cons, List·Memᴰ·not-nil}
 use Prim.Native.Nat.{ℕ, zero, suc, _+_, _-_, _≤_, _<_}
 use native.Mathlib.Omega.{arith}
-use lib.ListN.{length, getD, take, drop, length-append, length-drop}
+use lib.ListN.{length, getD, take, drop, length-append, length-drop, length-map}
 use lib.Seq.{length-take-le}
-use lib.Dec.{leb, T}
+use lib.Dec.{leb}
 use borrow.Author.Tests.{leb-true}
 use Rattle.ctl.specs.Lists.{_∈_}
 use Rattle.ctl.specs.Raw.{Raw}
-use Rattle.ctl.proofs.BoolLaws.{and-both, true-and-false, true-T}
-use Rattle.ctl.proofs.ListLaws.{any-in}
+use Rattle.ctl.proofs.BoolLaws.{and-both}
 use Rattle.syntax.specs.Raw.{size, nodes, At}
-use Rattle.syntax.specs.Parse.{Out, good, bad}
 use Rattle.syntax.proofs.TreeLaws.{length-nodes}
 use Rattle.layout.specs.Layout.{lines, texts, endsRight, startsRight, layoutRight}
 use Rattle.layout.proofs.FormulaTexts.{texts-length}
-use Rattle.sheet.specs.Refusal.{decls, read, unread, grammarWrong, readRefusal}
-use Rattle.sheet.specs.Sheet.{treeOf, trees, nodesFrom, endsOf, Placed, Stored}
+use Rattle.sheet.specs.Refusal.{decls, read, readRefusal}
+use Rattle.sheet.specs.Sheet.{nodesFrom, endsOf, Placed, Stored}
 use Rattle.sheet.specs.Reading.{formulas}
-use Rattle.sheet.proofs.RefusalLaws.{right-layout, right-grammar}
+use Rattle.sheet.proofs.RefusalLaws.{right-layout}
+use Rattle.sheet.proofs.FormulaTrees.{formulaOf, formulas-map}
 use Rattle.sheet.proofs.PlacedLaws.{stored-ends, stored-placed}
 
 -- the nodes of some formulas
@@ -65,36 +64,24 @@ placed-at tab (p ∷ ps) [] j x h = absurd x
 placed-at tab (p ∷ ps) (e ∷ es) zero x h = x .0
 placed-at tab (p ∷ ps) (e ∷ es) (suc j) x h = placed-at tab ps es j (x .1) (omega arith)
 
--- where every text parses there are as many formulas as texts
-trees-many : (decl : List ℕ) (ts : List (List ℕ)) → ((t : List ℕ) → t ∈ ts → unread (read decl t) ≡ false) → length (trees decl ts) ≡ length ts
-unfolding trees
-trees-many decl [] f = refl
-trees-many decl (t ∷ ts) f = length-append (treeOf (read decl t)) (trees decl ts) ∙ (let a = one (read decl t) (f t (List·Memᴰ·head refl)) in let b = trees-many decl ts (λ u m. f u (List·Memᴰ·tail m)) in omega arith)
-  where
-    one : (o : Out) → unread o ≡ false → length (treeOf o) ≡ 1
-    one bad e = absurd (true-and-false true refl e)
-    one (good p e low) q = refl
-
 module _ (s : List ℕ) (z : readRefusal s ≡ 0) where
+  -- there are as many formulas as texts
   pub formulas-many : length (formulas s) ≡ length (texts s)
-  unfolding grammarWrong
-  formulas-many = trees-many (decls s) (texts s) (λ t m. go t m (unread (read (decls s) t)) refl)
-    where
-      go : (t : List ℕ) → t ∈ texts s → (b : Bool) → unread (read (decls s) t) ≡ b → b ≡ false
-      go t m true e = absurd (true-and-false (grammarWrong s) (true-T (grammarWrong s) (any-in (λ t. unread (read (decls s) t)) m (seen e))) (right-grammar s z))
-        where
-          seen : unread (read (decls s) t) ≡ true → T (unread (read (decls s) t))
-          seen e = rw e tt
-      go t m false e = refl
+  formulas-many = ap length (formulas-map s z) ∙ length-map (texts s) (λ t. formulaOf (read (decls s) t))
+
+  lines-within : (3 ≤ length (lines s)) × (length (lines s) ≤ 7)
+  unfolding layoutRight
+  lines-within =
+      let a = and-both (endsRight s && leb 3 (length (lines s)) && leb (length (lines s)) 7) (startsRight (drop 2 (lines s))) (right-layout s z) in
+      let b = and-both (endsRight s && leb 3 (length (lines s))) (leb (length (lines s)) 7) (a .0) in
+      (leb-true 3 (length (lines s)) (and-both (endsRight s) (leb 3 (length (lines s))) (b .0) .1), leb-true (length (lines s)) 7 (b .1))
+
+  -- there are 1 to 5 of them
+  pub texts-some : 0 < length (texts s)
+  texts-some = let a = lines-within in let b = texts-length (drop 2 (lines s)) in let c = length-drop 2 (lines s) in omega arith
 
   pub texts-five : length (texts s) ≤ 5
-  unfolding layoutRight
-  texts-five =
-      let a = and-both (endsRight s && leb 3 (length (lines s)) && leb (length (lines s)) 7) (startsRight (drop 2 (lines s))) (right-layout s z) in
-      let b = leb-true (length (lines s)) 7 (and-both (endsRight s && leb 3 (length (lines s))) (leb (length (lines s)) 7) (a .0) .1) in
-      let c = texts-length (drop 2 (lines s)) in
-      let d = length-drop 2 (lines s) in
-      omega arith
+  texts-five = let a = lines-within in let b = texts-length (drop 2 (lines s)) in let c = length-drop 2 (lines s) in omega arith
 
   module _ {k n : ℕ} {ends tab : List ℕ} (few : k ≡ length (texts s)) (x : Stored (decls s) (texts s) k n ends tab) where
     abbrev ps : List Raw

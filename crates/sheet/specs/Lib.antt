@@ -1,3 +1,4 @@
 pub mod Refusal
 pub mod Sheet
 pub mod Reading
+pub mod ReadAs
