@@ -1,12 +1,15 @@
--- A formula that is read without the refusal 7 has only declared symbols and fields. Assumes nothing.
-use mathlib.Core.Path.{_≡_, refl, sym, ap, _∙_, subst}
-use mathlib.Core.Logic.{_⊎_, inl, inr}
+-- The formulas of a sheet that is not refused have only marks and names outside braces, and only fields in braces. Assumes nothing.
+use mathlib.Core.Path.{_≡_, refl, sym, _∙_, subst}
+use mathlib.Core.Logic.{inl, inr}
 use mathlib.Core.Bool.{Bool, true, false, not, _&&_, _||_}
-use mathlib.Core.List.{List, [], _∷_, map, List·Memᴰ·head, List·Memᴰ·tail, List·Memᴰ·not-nil, List·Memᴰ·append-cases, List·Memᴰ·eq-of-singleton}
-use Prim.Native.Nat.{ℕ, _+_, _-_, _^_, _≤_, _<_}
+use mathlib.Core.List.{List, [], _∷_, map, List·Memᴰ·head}
+use Prim.Native.Nat.{ℕ, zero, suc, _-_, _%_, _^_, _<_}
+use native.Mathlib.Nat.{zero-div}
+use native.Mathlib.Decide.{decLt}
 use native.Mathlib.Omega.{arith}
-use lib.Dec.{T, leb, eqb, eqb→eq, leb→le}
+use lib.Dec.{T, eqb, eqb→eq, eqb-refl}
 use lib.ListN.{length, length-map}
+use borrow.Author.Tests.{not-false}
 use Rattle.token.specs.declared.Modal.the-variants.{Ex, Ax, Ef, Af, Eg, Ag}
 use Rattle.token.specs.declared.Modal.{Modal}
 use Rattle.syntax.specs.declared.Binary.{Binary}
@@ -14,134 +17,146 @@ use Rattle.token.specs.Token.{pick}
 use Rattle.syntax.specs.declared.Binary.the-variants.{Eu, Au, Er, Ar}
 use Rattle.ctl.specs.Lists.{_∈_}
 use Rattle.ctl.specs.Numbers.{hasBit}
-use Rattle.ctl.specs.Modes.{allModes}
+use Rattle.ctl.specs.Modes.{modes, allModes}
 use Rattle.ctl.specs.Raw.{Raw}
-use Rattle.ctl.specs.Alphabet.{Declared, DeclaredAll, OverRaw}
-use Rattle.ctl.proofs.BoolLaws.{T-true, true-T, decide, and-0, and-1, true-and-false, T-cast, false-T, not-of}
+use Rattle.ctl.specs.Alphabet.{Declared, DeclaredAll, UsesRaw, OverRaw}
+use Rattle.ctl.proofs.BoolLaws.{T-true, and-0, and-1, and-in, true-and-false, T-cast, T-cast⁻}
 use Rattle.ctl.proofs.ListLaws.{any-in, any-out, getD-below}
 use Rattle.ctl.proofs.NumberLaws.{number-place, number-lt}
 use Rattle.ctl.proofs.ModeLaws.{modes-in, mode-lt}
+use Rattle.ctl.proofs.UsesLaws.{uses-raw}
 use Rattle.syntax.specs.Operators.{modal as modalRaw, binary as pathRaw}
-use Rattle.syntax.specs.Parse.{Out, good, bad}
-use Rattle.syntax.proofs.GrammarLaws.{line-derives}
-use Rattle.syntax.specs.Grammar.{Mode, forward, backward, Tree, zero, one, letter, neg, infixed, modal, path, entryOf, isSymbol, isField, modeNumber, holdsMode, modeSet, resolve, someNoField, symbolWrong, bracesWrong, lowOf}
-use Rattle.layout.specs.Layout.{letters, kinds, texts}
-use Rattle.layout.proofs.Entries.{Entry, Entries, declared-entries}
+use Rattle.syntax.specs.Grammar.{Mode, forward, backward, Tree, zero as zeroTree, one, letter, neg, infixed, modal, path, entryOf, isSymbol, isField, modeNumber, holdsMode, modeSet, resolve, someNoField, symbolWrong, emptyOrTwice, bracesWrong}
+use Rattle.layout.specs.Layout.{letters}
 use Rattle.layout.proofs.Letters.{sheet-letters}
-use Rattle.sheet.specs.Refusal.{decls, read, finds, symbolsWrong, readRefusal}
-use Rattle.sheet.specs.Sheet.{treeOf, trees}
+use Rattle.sheet.specs.Refusal.{decls, readRefusal}
 use Rattle.sheet.specs.Reading.{formulas}
-use Rattle.sheet.proofs.RefusalLaws.{right-symbols}
+use Rattle.sheet.specs.Symbols.{MarkOrName, Field, Fields, Kinded}
+use Rattle.sheet.proofs.FormulaTrees.{formula-read}
+use Rattle.sheet.proofs.KindLaws.{symbol-iff, field-iff}
 
-module _ (decl : List ℕ) (count : ℕ) (few : count ≤ 8) (entries : Entries count decl) where
-  -- a field's entry is one of those declared
-  field-entry : (k : ℕ) → T (leb 9 (entryOf decl k) && leb (entryOf decl k) 16) → (9 ≤ entryOf decl k) × (entryOf decl k < 9 + count)
-  field-entry k t = go (entries k)
+or-none : (a b : Bool) → (a || b) ≡ false → (a ≡ false) × (b ≡ false)
+or-none true b e = absurd (true-and-false true refl e)
+or-none false b e = (refl, e)
+
+-- ---- trees: what holds of each symbol and of each set of modes that is right holds of a formula in which none is wrong
+module _ (S M : ℕ → Type 0) (decl : List ℕ) (sym-right : (k : ℕ) → isSymbol decl k ≡ true → S (entryOf decl k - 1))
+    (set-right : (A : List Mode) → someNoField decl A ≡ false → emptyOrTwice decl A ≡ false → M (modeSet decl A)) where
+  tree-uses : (t : Tree) → symbolWrong decl t ≡ false → bracesWrong decl t ≡ false → UsesRaw S M (resolve decl t)
+  tree-uses zeroTree e f = tt
+  tree-uses one e f = tt
+  tree-uses (letter k) e f = sym-right k (not-false (isSymbol decl k) e)
+  tree-uses (neg t) e f = tree-uses t e f
+  tree-uses (infixed l t u) e f =
+      let r = or-none (symbolWrong decl t) (symbolWrong decl u) e in
+      let q = or-none (bracesWrong decl t) (bracesWrong decl u) f in
+      go (eqb l 0) (eqb l 1) (tree-uses t (r .0) (q .0), tree-uses u (r .1) (q .1))
     where
-      low : 9 ≤ entryOf decl k
-      low = leb→le 9 (entryOf decl k) (and-0 (leb 9 (entryOf decl k)) (leb (entryOf decl k) 16) t)
-
-      go : Entry count (entryOf decl k) → (9 ≤ entryOf decl k) × (entryOf decl k < 9 + count)
-      go (inl e) = absurd (let l = low in omega arith)
-      go (inr (inl e)) = absurd (let l = low in omega arith)
-      go (inr (inr e)) = e
-
-  mode-declared : (m : Mode) → T (isField decl m) → Declared count (modeNumber decl m)
-  mode-declared (forward k) t = let e = field-entry k t in inl (omega arith)
-  mode-declared (backward k) t = let e = field-entry k t in inr (omega arith, omega arith)
-
-  set-declared : (A : List Mode) → DeclaredAll count (modeSet decl A)
-  unfolding modeSet
-  set-declared A = (
-    subst (λ n. modeSet decl A < 2 ^ n) (length-map allModes (λ i. holdsMode decl A i)) (number-lt (map (λ i. holdsMode decl A i) allModes)),
-    λ m k.
-        let w = modes-in (modeSet decl A) k in
-        let at : hasBit (modeSet decl A) m ≡ holdsMode decl A m = number-place (map (λ i. holdsMode decl A i) allModes) m ∙ getD-below (λ i. holdsMode decl A i) false 16 m (mode-lt (w .0)) in
-        let r = any-out (λ n. isField decl n && eqb m (modeNumber decl n)) A (T-cast at (w .1)) in
-        let n = r .0 in
-        subst (Declared count) (sym (eqb→eq m (modeNumber decl n) (and-1 (isField decl n) (eqb m (modeNumber decl n)) (r .2)))) (mode-declared n (and-0 (isField decl n) (eqb m (modeNumber decl n)) (r .2))),
-  )
-
-  symbol-declared : (k : ℕ) → not (isSymbol decl k) ≡ false → entryOf decl k - 1 < count
-  symbol-declared k e = go (decide (isSymbol decl k))
+      go : (a b : Bool) → UsesRaw S M (resolve decl t) × UsesRaw S M (resolve decl u)
+          → UsesRaw S M (pick a (Raw.imp (resolve decl t) (resolve decl u)) (pick b (Raw.or (resolve decl t) (resolve decl u)) (Raw.and (resolve decl t) (resolve decl u))))
+      go true b x = x
+      go false true x = x
+      go false false x = x
+  tree-uses (modal m A t) e f =
+      let r = or-none (someNoField decl A) (symbolWrong decl t) e in
+      let q = or-none (emptyOrTwice decl A) (bracesWrong decl t) f in
+      go m (set-right A (r .0) (q .0), tree-uses t (r .1) (q .1))
     where
-      at : T (isSymbol decl k) → Entry count (entryOf decl k) → entryOf decl k - 1 < count
-      at t (inl z) = absurd (let l = leb→le 1 (entryOf decl k) (and-0 (leb 1 (entryOf decl k)) (leb (entryOf decl k) 8) t) in omega arith)
-      at t (inr (inl z)) = omega arith
-      at t (inr (inr z)) = absurd (let l = leb→le (entryOf decl k) 8 (and-1 (leb 1 (entryOf decl k)) (leb (entryOf decl k) 8) t) in omega arith)
-
-      go : (isSymbol decl k ≡ true) ⊎ (isSymbol decl k ≡ false) → entryOf decl k - 1 < count
-      go (inl t) = at (T-true (isSymbol decl k) t) (entries k)
-      go (inr f) = absurd (true-and-false (not (isSymbol decl k)) (not-of (isSymbol decl k) f) e)
-
-  or-none : (a b : Bool) → (a || b) ≡ false → (a ≡ false) × (b ≡ false)
-  or-none true b e = absurd (true-and-false true refl e)
-  or-none false b e = (refl, e)
-
-  pub tree-over : (t : Tree) → symbolWrong decl t ≡ false → OverRaw count (resolve decl t)
-  tree-over zero e = tt
-  tree-over one e = tt
-  tree-over (letter k) e = symbol-declared k e
-  tree-over (neg t) e = tree-over t e
-  tree-over (infixed l t u) e = let r = or-none (symbolWrong decl t) (symbolWrong decl u) e in go (eqb l 0) (eqb l 1) (tree-over t (r .0)) (tree-over u (r .1))
-    where
-      go : (a b : Bool) → OverRaw count (resolve decl t) → OverRaw count (resolve decl u)
-          → OverRaw count (pick a (Raw.imp (resolve decl t) (resolve decl u)) (pick b (Raw.or (resolve decl t) (resolve decl u)) (Raw.and (resolve decl t) (resolve decl u))))
-      go true b x y = (x, y)
-      go false true x y = (x, y)
-      go false false x y = (x, y)
-  tree-over (modal m A t) e = let r = or-none (someNoField decl A) (symbolWrong decl t) e in go m (tree-over t (r .1))
-    where
-      go : (m : Modal) → OverRaw count (resolve decl t) → OverRaw count (modalRaw m (modeSet decl A) (resolve decl t))
-      go Ex x = (set-declared A, x)
-      go Ax x = (set-declared A, x)
-      go Ef x = (set-declared A, x)
-      go Af x = (set-declared A, x)
-      go Eg x = (set-declared A, x)
-      go Ag x = (set-declared A, x)
-  tree-over (path b A t u) e =
+      go : (m : Modal) → M (modeSet decl A) × UsesRaw S M (resolve decl t) → UsesRaw S M (modalRaw m (modeSet decl A) (resolve decl t))
+      go Ex x = x
+      go Ax x = x
+      go Ef x = x
+      go Af x = x
+      go Eg x = x
+      go Ag x = x
+  tree-uses (path b A t u) e f =
       let r = or-none (someNoField decl A || symbolWrong decl t) (symbolWrong decl u) e in
-      let q = or-none (someNoField decl A) (symbolWrong decl t) (r .0) in
-      go b (tree-over t (q .1)) (tree-over u (r .1))
+      let r′ = or-none (someNoField decl A) (symbolWrong decl t) (r .0) in
+      let q = or-none (emptyOrTwice decl A || bracesWrong decl t) (bracesWrong decl u) f in
+      let q′ = or-none (emptyOrTwice decl A) (bracesWrong decl t) (q .0) in
+      go b (set-right A (r′ .0) (q′ .0), tree-uses t (r′ .1) (q′ .1), tree-uses u (r .1) (q .1))
     where
-      go : (b : Binary) → OverRaw count (resolve decl t) → OverRaw count (resolve decl u) → OverRaw count (pathRaw b (modeSet decl A) (resolve decl t) (resolve decl u))
-      go Eu x y = (set-declared A, x, y)
-      go Au x y = (set-declared A, x, y)
-      go Er x y = (set-declared A, x, y)
-      go Ar x y = (set-declared A, x, y)
+      go : (b : Binary) → M (modeSet decl A) × UsesRaw S M (resolve decl t) × UsesRaw S M (resolve decl u) → UsesRaw S M (pathRaw b (modeSet decl A) (resolve decl t) (resolve decl u))
+      go Eu x = x
+      go Au x = x
+      go Er x = x
+      go Ar x = x
 
--- ---- the formulas of a sheet
+-- ---- sets of modes
 
--- a formula of some texts is what one of them says
-abbrev Says : List ℕ → List (List ℕ) → Raw → Type 0
-Says decl ts p = (t : List ℕ) × (e : ℕ) × (low : ℕ) × (t ∈ ts) × (read decl t ≡ good p e low)
+-- a set is that of the modes which braces hold
+set-bit : (decl : List ℕ) (A : List Mode) (i : ℕ) → i < 16 → hasBit (modeSet decl A) i ≡ holdsMode decl A i
+unfolding modeSet
+set-bit decl A i h = number-place (map (λ i. holdsMode decl A i) allModes) i ∙ getD-below (λ i. holdsMode decl A i) false 16 i h
 
-trees-out : (decl : List ℕ) (ts : List (List ℕ)) (p : Raw) → p ∈ trees decl ts → Says decl ts p
-unfolding trees
-trees-out decl [] p m = absurd (List·Memᴰ·not-nil m)
-trees-out decl (t ∷ ts) p m = go (List·Memᴰ·append-cases (treeOf (read decl t)) m) (trees-out decl ts p)
+set-lt : (decl : List ℕ) (A : List Mode) → modeSet decl A < 2 ^ 16
+unfolding modeSet
+set-lt decl A = subst (λ n. modeSet decl A < 2 ^ n) (length-map allModes (λ i. holdsMode decl A i)) (number-lt (map (λ i. holdsMode decl A i) allModes))
+
+bit-some : (x i : ℕ) → T (hasBit x i) → 0 < x
+bit-some zero i h = absurd (rw (zero-div (2 ^ i)) at h)
+bit-some (suc x) i h = omega arith
+
+-- the modes of a set along fields are modes of declared symbols
+pub fields-declared : (s : List ℕ) (A : ℕ) → Fields s A → DeclaredAll (length (letters s)) A
+fields-declared s A x = (x .sixteen, λ m i. go m (x .each m i .0) (mode-lt (modes-in A i .0)) (decLt m 8))
   where
-    here : (o : Out) → read decl t ≡ o → p ∈ treeOf o → Says decl (t ∷ ts) p
-    here bad q i = absurd (List·Memᴰ·not-nil i)
-    here (good x e low) q i = (t, e, low, List·Memᴰ·head refl, q ∙ ap (λ z. good z e low) (sym (List·Memᴰ·eq-of-singleton i)))
+    go : (m : ℕ) → m % 8 < length (letters s) → m < 16 → Dec (m < 8) → Declared (length (letters s)) m
+    go m h l (yes k) = inl (omega arith)
+    go m h l (no k) = inr (omega arith, omega arith)
 
-    go : (p ∈ treeOf (read decl t)) ⊎ (p ∈ trees decl ts) → (p ∈ trees decl ts → Says decl ts p) → Says decl (t ∷ ts) p
-    go (inl i) rec = here (read decl t) refl i
-    go (inr i) rec = let r = rec i in (r .0, r .1, r .2, List·Memᴰ·tail (r .3), r .4)
+-- ---- a sheet that is not refused
+module _ (s : List ℕ) (z : readRefusal s ≡ 0) where
+  symbol-kind : (k : ℕ) → isSymbol (decls s) k ≡ true → MarkOrName s (entryOf (decls s) k - 1)
+  symbol-kind k e =
+      let r = symbol-iff s z k .0 (T-true (isSymbol (decls s) k) e) in
+      let i = r .3 in
+      let q : r .0 ≡ entryOf (decls s) k - 1 = omega arith in
+      subst (MarkOrName s) q (r .2)
 
-not-seven : (decl : List ℕ) (t : Tree) → eqb (lowOf decl t) 7 ≡ false → symbolWrong decl t ≡ false
-not-seven decl t e = go (symbolWrong decl t) refl e
-  where
-    go : (b : Bool) → symbolWrong decl t ≡ b → eqb (pick b 7 (pick (bracesWrong decl t) 8 9)) 7 ≡ false → b ≡ false
-    go true q f = f
-    go false q f = refl
+  mode-field : (m : Mode) → T (isField (decls s) m) → (modeNumber (decls s) m < 16) × Field s (modeNumber (decls s) m % 8)
+  mode-field (forward k) t =
+      let r = field-iff s z k .0 t in
+      let i = r .3 in
+      let h = r .2 .0 in
+      let f = sheet-letters s .few in
+      let q : r .0 ≡ modeNumber (decls s) (forward k) % 8 = omega arith in
+      (omega arith, subst (Field s) q (r .2))
+  mode-field (backward k) t =
+      let r = field-iff s z k .0 t in
+      let i = r .3 in
+      let h = r .2 .0 in
+      let f = sheet-letters s .few in
+      let q : r .0 ≡ modeNumber (decls s) (backward k) % 8 = omega arith in
+      (omega arith, subst (Field s) q (r .2))
 
--- every formula of a sheet that is not refused has only declared symbols and fields
-pub formulas-over : (s : List ℕ) → readRefusal s ≡ 0 → (p : Raw) → p ∈ formulas s → OverRaw (length (letters s)) p
-unfolding symbolsWrong
-formulas-over s z p m =
-    let r = trees-out (decls s) (texts s) p m in
-    let g = line-derives (r .0) (decls s) p (r .1) (r .2) (r .4) in
-    let no : finds 7 (read (decls s) (r .0)) ≡ false = false-T (finds 7 (read (decls s) (r .0))) (λ t. true-and-false (symbolsWrong s) (true-T (symbolsWrong s) (any-in (λ t. finds 7 (read (decls s) t)) (r .3) t)) (right-symbols s z)) in
-    let low : eqb (lowOf (decls s) (g .0)) 7 ≡ false = ap (λ n. eqb n 7) (sym (g .3)) ∙ sym (ap (finds 7) (r .4)) ∙ no in
-    subst (OverRaw (length (letters s))) (sym (g .2)) (tree-over (decls s) (length (letters s)) (sheet-letters s .few) (declared-entries (letters s) (kinds s)) (g .0) (not-seven (decls s) (g .0) low))
+  set-fields : (A : List Mode) → someNoField (decls s) A ≡ false → emptyOrTwice (decls s) A ≡ false → Fields s (modeSet (decls s) A)
+  set-fields A e f = record { some = go A e f; sixteen = set-lt (decls s) A; each = each }
+    where
+      go : (A : List Mode) → someNoField (decls s) A ≡ false → emptyOrTwice (decls s) A ≡ false → 0 < modeSet (decls s) A
+      go [] e f = absurd (true-and-false true refl f)
+      go (m ∷ r) e f =
+          let t = T-true (isField (decls s) m) (not-false (isField (decls s) m) (or-none (not (isField (decls s) m)) (someNoField (decls s) r) e .0)) in
+          let i = modeNumber (decls s) m in
+          let held = any-in (λ n. isField (decls s) n && eqb i (modeNumber (decls s) n)) {l = m ∷ r} (List·Memᴰ·head refl) (and-in (isField (decls s) m) (eqb i i) t (eqb-refl i)) in
+          bit-some (modeSet (decls s) (m ∷ r)) i (T-cast⁻ (set-bit (decls s) (m ∷ r) i (mode-field m t .0)) held)
+
+      each : (m : ℕ) → m ∈ modes (modeSet (decls s) A) → Field s (m % 8)
+      each m k =
+          let w = modes-in (modeSet (decls s) A) k in
+          let r = any-out (λ n. isField (decls s) n && eqb m (modeNumber (decls s) n)) A (T-cast (set-bit (decls s) A m (mode-lt (w .0))) (w .1)) in
+          let n = r .0 in
+          let t = and-0 (isField (decls s) n) (eqb m (modeNumber (decls s) n)) (r .2) in
+          let q : m ≡ modeNumber (decls s) n = eqb→eq m (modeNumber (decls s) n) (and-1 (isField (decls s) n) (eqb m (modeNumber (decls s) n)) (r .2)) in
+          subst (λ j. Field s (j % 8)) (sym q) (mode-field n t .1)
+
+  -- every formula has only marks and names outside braces, and in braces only fields, some in each
+  pub formulas-kinds : (p : Raw) → p ∈ formulas s → Kinded s p
+  formulas-kinds p m =
+      let r = formula-read s z p m in
+      let x = r .2 in
+      subst (Kinded s) (sym (x .is)) (tree-uses (MarkOrName s) (Fields s) (decls s) symbol-kind set-fields (x .tree) (x .symbols-right) (x .braces-right))
+
+  -- so all its symbols and fields are declared
+  pub formulas-over : (p : Raw) → p ∈ formulas s → OverRaw (length (letters s)) p
+  formulas-over p m = uses-raw (λ k h. h .0) (fields-declared s) p (formulas-kinds p m)

@@ -5,5 +5,6 @@ pub mod Alphabet
 pub mod RefusalLaws
 pub mod ConditionLaws
 pub mod FormulaTrees
+pub mod KindLaws
 pub mod DeclaredLaws
 pub mod SizeLaws

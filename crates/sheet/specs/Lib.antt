@@ -2,3 +2,4 @@ pub mod Refusal
 pub mod Sheet
 pub mod Reading
 pub mod ReadAs
+pub mod Symbols

@@ -1,0 +1,114 @@
+-- The declarations of a sheet that is not refused say what lines 1 and 2 do: a letter is taken for a mark or a name exactly if it is declared as one, and for a field exactly if it is
+-- declared as one. Assumes nothing.
+use mathlib.Core.Path.{_≡_, refl, sym, ap, _∙_}
+use mathlib.Core.Logic.{_⊎_, inl, inr, _↔_}
+use mathlib.Core.Bool.{Bool, true, false, cond, not, _&&_, _||_}
+use mathlib.Core.List.{List, [], _∷_, _++_, List·Memᴰ·not-nil, List·Memᴰ·append-cases, List·Memᴰ·eq-of-singleton}
+use Prim.Native.Nat.{ℕ, _+_, _-_, _≤_, _<_}
+use native.Mathlib.Omega.{arith}
+use native.Mathlib.Decide.{ℕ-discrete}
+use lib.Dec.{T, leb, ltb, eqb, leb→le, le→leb}
+use lib.ListN.{length, getD}
+use borrow.Author.Tests.{eqb-true, eqb-false, ltb-true}
+use Rattle.ctl.specs.Lists.{_∈_}
+use Rattle.ctl.proofs.BoolLaws.{and-0, and-1, and-in, and-both}
+use Rattle.ctl.proofs.ListLaws.{find, getD-in}
+use Rattle.syntax.specs.Grammar.{forward, entryOf, isSymbol, isField}
+use Rattle.layout.specs.Text.{same, split}
+use Rattle.layout.specs.Layout.{space, markWord, nameWord, fieldWord, nameCount, kindOf, kindRight, kindsFrom, kindsOf, lineOf, letters, kinds}
+use Rattle.layout.proofs.Letters.{sheet-letters}
+use Rattle.layout.proofs.Entries.{sheet-entry, sheet-no-entry}
+use Rattle.sheet.specs.Refusal.{decls, readRefusal}
+use Rattle.sheet.specs.Symbols.{DeclaredAs, MarkOrName, Field}
+use Rattle.sheet.proofs.RefusalLaws.{right-kinds}
+
+-- ---- a kind is 1, 2 or 3
+abbrev Kind : ℕ → Type 0
+Kind k = (1 ≤ k) × (k ≤ 3)
+
+kind-three : (w : List ℕ) → kindOf w ≤ 3
+unfolding kindOf
+kind-three w = go (same w markWord) (same w nameWord) (same w fieldWord)
+  where
+    go : (a b c : Bool) → cond a 1 (cond b 2 (cond c 3 0)) ≤ 3
+    go true b c = omega arith
+    go false true c = omega arith
+    go false false true = omega arith
+    go false false false = omega arith
+
+kind-some : (seen : List ℕ) (k : ℕ) → kindRight seen k ≡ true → 1 ≤ k
+unfolding kindRight
+kind-some seen k e = let h = ltb-true 0 k (and-both (ltb 0 k) (ltb (length seen) 8) (and-both (ltb 0 k && ltb (length seen) 8) (not (eqb k 2) || ltb (nameCount seen) 2) e .0) .0) in omega arith
+
+kinds-each : (ws : List (List ℕ)) (seen : List ℕ) → ((k : ℕ) → k ∈ seen → Kind k) → (k : ℕ) → k ∈ kindsFrom seen ws → Kind k
+unfolding kindsFrom
+kinds-each [] seen f k m = f k m
+kinds-each (w ∷ ws) seen f k m = go (kindRight seen (kindOf w)) (λ e. kinds-each ws (seen ++ (kindOf w ∷ [])) (λ j i. more e j (List·Memᴰ·append-cases seen i)) k) m
+  where
+    more : kindRight seen (kindOf w) ≡ true → (j : ℕ) → (j ∈ seen) ⊎ (j ∈ kindOf w ∷ []) → Kind j
+    more e j (inl i) = f j i
+    more e j (inr i) = let q = List·Memᴰ·eq-of-singleton i in let a = kind-some seen (kindOf w) e in let b = kind-three w in (omega arith, omega arith)
+
+    go : (b : Bool) → (b ≡ true → k ∈ kindsFrom (seen ++ (kindOf w ∷ [])) ws → Kind k) → k ∈ cond b (kindsFrom (seen ++ (kindOf w ∷ [])) ws) [] → Kind k
+    go true rec i = rec refl i
+    go false rec i = absurd (List·Memᴰ·not-nil i)
+
+sheet-kind : (s : List ℕ) (j : ℕ) → j < length (kinds s) → Kind (getD (kinds s) j 0)
+unfolding kindsOf
+sheet-kind s j h = kinds-each (split space (lineOf s 1)) [] (λ k m. absurd (List·Memᴰ·not-nil m)) (getD (kinds s) j 0) (getD-in 0 (kinds s) j h)
+
+mark-or-name : (n : ℕ) → Kind n → (n ≡ 3 → ⊥) → Dec (n ≡ 1) → (n ≡ 1) ⊎ (n ≡ 2)
+mark-or-name n h f (yes e) = inl e
+mark-or-name n h f (no e) = inr (omega arith)
+
+-- ---- the entry of a letter
+module _ (s : List ℕ) (z : readRefusal s ≡ 0) where
+  data Entry (k : ℕ) : Type 0 where
+    none : entryOf (decls s) k ≡ 0 → Entry k
+    symbol : (j : ℕ) → DeclaredAs s k j → MarkOrName s j → entryOf (decls s) k ≡ 1 + j → Entry k
+    field : (j : ℕ) → DeclaredAs s k j → Field s j → entryOf (decls s) k ≡ 9 + j → Entry k
+
+  declared : (k j : ℕ) → DeclaredAs s k j → (b : Bool) → eqb (getD (kinds s) j 0) 3 ≡ b → entryOf (decls s) k ≡ cond b (9 + j) (1 + j) → Entry k
+  declared k j d true e q = field j d (d .0, eqb-true _ _ e) q
+  declared k j d false e q =
+      let c = right-kinds s z in
+      let h = d .0 in
+      symbol j d (h, mark-or-name (getD (kinds s) j 0) (sheet-kind s j (omega arith)) (eqb-false _ _ e) (ℕ-discrete (getD (kinds s) j 0) 1)) q
+
+  entry : (k : ℕ) → Entry k
+  entry k = go (find (length (letters s)) (λ j. eqb (getD (letters s) j 0) (97 + k)))
+    where
+      go : ((j : ℕ) × (j < length (letters s)) × (eqb (getD (letters s) j 0) (97 + k) ≡ true)) ⊎ ((j : ℕ) → j < length (letters s) → eqb (getD (letters s) j 0) (97 + k) ≡ false) → Entry k
+      go (inl r) =
+          let l = eqb-true (getD (letters s) (r .0) 0) (97 + k) (r .2) in
+          let h = r .1 in
+          let c = right-kinds s z in
+          let i : getD (letters s) (r .0) 0 - 97 ≡ k = omega arith in
+          declared k (r .0) (h, l) (eqb (getD (kinds s) (r .0) 0) 3) refl (ap (λ (n : ℕ). getD (decls s) n 0) (sym i) ∙ sheet-entry s (r .0) h (omega arith))
+      go (inr f) =
+          let i : 97 + k - 97 ≡ k = omega arith in
+          none (ap (λ (n : ℕ). getD (decls s) n 0) (sym i) ∙ sheet-no-entry s (97 + k) (omega arith) (λ j h. eqb-false (getD (letters s) j 0) (97 + k) (f j h)))
+
+  -- a letter outside braces is right exactly if it is declared as a mark or a name, and its entry gives that symbol
+  pub symbol-iff : (k : ℕ) → T (isSymbol (decls s) k) ↔ ((j : ℕ) × DeclaredAs s k j × MarkOrName s j × (entryOf (decls s) k ≡ 1 + j))
+  symbol-iff k = (
+    λ t. out (leb→le 1 (entryOf (decls s) k) (and-0 (leb 1 (entryOf (decls s) k)) (leb (entryOf (decls s) k) 8) t)) (leb→le (entryOf (decls s) k) 8 (and-1 (leb 1 (entryOf (decls s) k)) (leb (entryOf (decls s) k) 8) t)) (entry k),
+    λ r. (let h = r .2 .0 in let e = r .3 in let f = sheet-letters s .few in and-in (leb 1 (entryOf (decls s) k)) (leb (entryOf (decls s) k) 8) (le→leb 1 (entryOf (decls s) k) (omega arith)) (le→leb (entryOf (decls s) k) 8 (omega arith))),
+  )
+    where
+      out : 1 ≤ entryOf (decls s) k → entryOf (decls s) k ≤ 8 → Entry k → (j : ℕ) × DeclaredAs s k j × MarkOrName s j × (entryOf (decls s) k ≡ 1 + j)
+      out l h (none e) = absurd (omega arith)
+      out l h (symbol j d m e) = (j, d, m, e)
+      out l h (field j d m e) = absurd (omega arith)
+
+  -- a letter in braces is right, forward and backward, exactly if it is declared as a field, and its entry gives that symbol
+  pub field-iff : (k : ℕ) → T (isField (decls s) (forward k)) ↔ ((j : ℕ) × DeclaredAs s k j × Field s j × (entryOf (decls s) k ≡ 9 + j))
+  field-iff k = (
+    λ t. out (leb→le 9 (entryOf (decls s) k) (and-0 (leb 9 (entryOf (decls s) k)) (leb (entryOf (decls s) k) 16) t)) (entry k),
+    λ r. (let h = r .2 .0 in let e = r .3 in let f = sheet-letters s .few in and-in (leb 9 (entryOf (decls s) k)) (leb (entryOf (decls s) k) 16) (le→leb 9 (entryOf (decls s) k) (omega arith)) (le→leb (entryOf (decls s) k) 16 (omega arith))),
+  )
+    where
+      out : 9 ≤ entryOf (decls s) k → Entry k → (j : ℕ) × DeclaredAs s k j × Field s j × (entryOf (decls s) k ≡ 9 + j)
+      out l (none e) = absurd (omega arith)
+      out l (symbol j d m e) = absurd (let h = m .0 in let f = sheet-letters s .few in omega arith)
+      out l (field j d m e) = (j, d, m, e)

@@ -1,0 +1,37 @@
+-- The kinds of a sheet's symbols, and formulas that keep to them: marks and names outside braces, fields in braces. Assumes nothing.
+use mathlib.Core.Path.{_≡_}
+use mathlib.Core.Logic.{_⊎_}
+use mathlib.Core.List.{List}
+use Prim.Native.Nat.{ℕ, _+_, _%_, _^_, _<_}
+use lib.ListN.{length, getD}
+use Rattle.ctl.specs.Lists.{_∈_}
+use Rattle.ctl.specs.Formula.{Form}
+use Rattle.ctl.specs.Raw.{Raw}
+use Rattle.ctl.specs.Modes.{modes}
+use Rattle.ctl.specs.Alphabet.{Uses, UsesRaw}
+use Rattle.layout.specs.Layout.{letters, kinds}
+
+module _ (s : List ℕ) where
+  -- letter k of the alphabet, from 0, is declared on line 1 as symbol j
+  abbrev pub DeclaredAs : ℕ → ℕ → Type 0
+  DeclaredAs k j = (j < length (letters s)) × (getD (letters s) j 0 ≡ 97 + k)
+
+  -- symbol j is declared, on line 2 as a mark (kind 1) or a name (2); as a field (3)
+  abbrev pub MarkOrName : ℕ → Type 0
+  MarkOrName j = (j < length (letters s)) × ((getD (kinds s) j 0 ≡ 1) ⊎ (getD (kinds s) j 0 ≡ 2))
+
+  abbrev pub Field : ℕ → Type 0
+  Field j = (j < length (letters s)) × (getD (kinds s) j 0 ≡ 3)
+
+  -- a set of modes that is not empty, each of which goes along a field: mode m along symbol m % 8
+  pub record Fields (A : ℕ) : Type 0 where
+    pub some : 0 < A
+    pub sixteen : A < 2 ^ 16
+    pub each : (m : ℕ) → m ∈ modes A → Field (m % 8)
+
+  -- a formula as typed, and a positive one, has only marks and names outside braces, and only fields in braces
+  abbrev pub Kinded : Raw → Type 0
+  Kinded p = UsesRaw MarkOrName Fields p
+
+  abbrev pub KindedForm : Form → Type 0
+  KindedForm p = Uses MarkOrName Fields p
