@@ -8,3 +8,4 @@ pub mod FormulaTrees
 pub mod KindLaws
 pub mod DeclaredLaws
 pub mod SizeLaws
+pub mod GoalLaws
