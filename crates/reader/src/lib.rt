@@ -1,6 +1,8 @@
 // Reading a sheet: from its bytes to symbols, kinds, formulas, closure and lean, or to one refusal.
 ghost use mathlib.Core.Path.{_≡_};
 ghost use mathlib.Core.Bool.{true};
+ghost use mathlib.Core.Logic.{_↔_};
+ghost use mathlib.Core.List.{[]};
 ghost use Prim.Native.Nat.{ℕ, _+_, _-_, _≤_, _<_};
 ghost use lib.ListN.{length, getD};
 ghost use Rattle.sheet.specs.Sheet.{goalUnder, goalStart};
@@ -162,14 +164,22 @@ pub fn read(s: &[u8]) -> Reading
     read_within(s, 64, 8)
 }
 
-// The goal's text: a part of the sheet itself, empty with a refusal.
-pub fn goal_text(s: &[u8]) -> &[u8]
-    ensures { λ r. ⌜ now r ≡ goalUnder (now (s .entry)) (refusalOf (now (s .entry))) ⌝ }
-    ensures { λ r. ⌜ (r .ptr .0 ≡ s .entry .ptr .0) × (r .ptr .1 ≡ s .entry .ptr .1 + goalStart (now (s .entry)) (refusalOf (now (s .entry)))) ⌝ }
+// The number of the refusal, 0 for a sheet that is accepted.
+pub fn refusal_of(s: &[u8]) -> u8
+    ensures { λ r. ⌜ r ≡ refusalOf (now (s .entry)) ⌝ }
 {
     let r = read(s);
     let refusal = r.refusal;
-    sheet::goal_part(s, number(refusal))
+    number(refusal)
+}
+
+// The goal's text: a part of the sheet itself, empty exactly with a refusal.
+pub fn goal_text(s: &[u8]) -> &[u8]
+    ensures { λ r. ⌜ now r ≡ goalUnder (now (s .entry)) (refusalOf (now (s .entry))) ⌝ }
+    ensures { λ r. ⌜ (r .ptr .0 ≡ s .entry .ptr .0) × (r .ptr .1 ≡ s .entry .ptr .1 + goalStart (now (s .entry)) (refusalOf (now (s .entry)))) ⌝ }
+    ensures { λ r. ⌜ (now r ≡ []) ↔ (refusalOf (now (s .entry)) ≡ 0 → ⊥) ⌝ }
+{
+    sheet::goal_part(s, refusal_of(s))
 }
 
 // Document 01's number.
