@@ -1,55 +1,17 @@
--- The entries of a sheet's declarations: each names no symbol, or one of those declared. Assumes nothing.
+-- The entries of a sheet's declarations: that of a declared letter is its symbol's, by number and kind, and that of another is 0. Assumes nothing.
 use mathlib.Core.Path.{_≡_, refl, ap, _∙_}
 use mathlib.Core.Bool.{Bool, true, false, cond}
-use mathlib.Core.Logic.{_⊎_, inl, inr}
 use mathlib.Core.List.{List, [], _∷_}
 use Prim.Native.Nat.{ℕ, zero, suc, _+_, _-_, _≤_, _<_}
 use native.Mathlib.Nat.{add-zero}
-use native.Mathlib.Decide.{decLt, ℕ-discrete}
+use native.Mathlib.Decide.{decLt}
 use native.Mathlib.Omega.{arith}
-use lib.Dec.{eqb}
 use lib.ListN.{length, getD, set, replicate, getD-replicate, List·getD-eq-default, length-replicate, length-set}
-use lib.Seq.{getD-set-same, getD-set-other, set-out}
+use lib.Seq.{getD-set-same, getD-set-other}
 use borrow.Author.Tests.{le-leb}
 use Rattle.layout.specs.Layout.{lower, entryOf, declare, declared, letters, kinds}
 use Rattle.layout.proofs.Letters.{sheet-letters}
 
--- with n symbols: 0 undeclared, from 1 on a mark or name, from 9 on a field
-abbrev pub Entry : ℕ → ℕ → Type 0
-Entry n v = (v ≡ 0) ⊎ (((1 ≤ v) × (v ≤ n)) ⊎ ((9 ≤ v) × (v < 9 + n)))
-
-abbrev pub Entries : ℕ → List ℕ → Type 0
-Entries n tab = (k : ℕ) → Entry n (getD tab k 0)
-
-set-from : (n : ℕ) (tab : List ℕ) (j v k : ℕ) → Entries n tab → Entry n v → Dec (k ≡ j) → Dec (j < length tab) → Entry n (getD (set tab j v) k 0)
-set-from n tab j v k x e (no p) d = rw (getD-set-other tab j k v 0 p) (x k)
-set-from n tab j v k x e (yes p) (yes q) = rw (p, getD-set-same tab j v 0 q) e
-set-from n tab j v k x e (yes p) (no q) = rw (set-out tab j v (omega arith)) (x k)
-
-entry-from : (n i : ℕ) → i < n → (t : Bool) → Entry n (cond t (9 + i) (1 + i))
-entry-from n i h true = inr (inr (omega arith, omega arith))
-entry-from n i h false = inr (inl (omega arith, omega arith))
-
-step : (n : ℕ) (tab : List ℕ) (j v : ℕ) (t : Bool) → Entries n tab → Entry n v → Entries n (cond t (set tab j v) tab)
-step n tab j v true x e k = set-from n tab j v k x e (ℕ-discrete k j) (decLt j (length tab))
-step n tab j v false x e k = x k
-
-pub declare-entries : (n i : ℕ) (cs ks tab : List ℕ) → i + length cs ≤ n → Entries n tab → Entries n (declare i cs ks tab)
-unfolding declare
-declare-entries n i [] ks tab h x = x
-declare-entries n i (c ∷ cs) [] tab h x = x
-declare-entries n i (c ∷ cs) (k ∷ ks) tab h x =
-    declare-entries n (suc i) cs ks (cond (lower c) (set tab (c - 97) (entryOf i k)) tab) (omega arith) (step n tab (c - 97) (entryOf i k) (lower c) x (entry-from n i (omega arith) (eqb k 3)))
-
-blank-from : (n k : ℕ) → Dec (k < 26) → Entry n (getD (replicate 26 0) k 0)
-blank-from n k (yes p) = inl (getD-replicate 26 k 0 0 p)
-blank-from n k (no p) = inl (List·getD-eq-default (replicate 26 0) 0 {n = k} (rw length-replicate (omega arith)))
-
-pub declared-entries : (cs ks : List ℕ) → Entries (length cs) (declared cs ks)
-unfolding declared
-declared-entries cs ks = declare-entries (length cs) 0 cs ks (replicate 26 0) (omega arith) (λ k. blank-from (length cs) k (decLt k 26))
-
--- ---- the entry of a declared letter is its symbol's, by number and kind
 abbrev Low : List ℕ → Type 0
 Low cs = (k : ℕ) → k < length cs → 97 ≤ getD cs k 0
 

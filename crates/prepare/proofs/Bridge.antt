@@ -1,14 +1,13 @@
 -- What the tableau asks of a member table, a lean, the globals and the goal, of those that the reader gives. Assumes nothing.
 use mathlib.Core.Path.{_≡_, refl, sym, ap, _∙_, subst}
-use mathlib.Core.Bool.{true, _&&_, _||_}
+use mathlib.Core.Bool.{true, _||_}
 use mathlib.Core.List.{List, [], _∷_, _++_, map, map-append, List·Memᴰ·head, List·Memᴰ·tail}
 use Prim.Native.Nat.{ℕ, zero, suc, _-_, _≤_, _<_}
 use native.Mathlib.Omega.{arith}
 use native.Mathlib.Decide.{decLe}
-use lib.ListN.{length, getD, drop, length-append, length-map, length-drop, List·getD-append, List·getD-eq-default}
+use lib.ListN.{length, getD, length-append, length-map, List·getD-append, List·getD-eq-default}
 use lib.Seq.{ext-getD, getD-at, length-take-le}
-use lib.Dec.{T, eqb, leb}
-use borrow.Author.Tests.{leb-true}
+use lib.Dec.{T, eqb}
 use Rattle.ctl.specs.Lists.{_∈_}
 use Rattle.ctl.specs.Formula.{Form, tru}
 use Rattle.ctl.specs.Equality.{tag, num}
@@ -19,14 +18,11 @@ use Rattle.ctl.specs.Closure.{Unique, more, closure}
 use Rattle.ctl.specs.Lean.{isLetter, isNext, lean}
 use Rattle.ctl.specs.Tableau.{Tableau, tableauOf, namePlaces, otherPlaces}
 use Rattle.ctl.specs.Demand3.{sheetTableau}
-use Rattle.ctl.proofs.BoolLaws.{and-both, and-make, or-1, T-true}
+use Rattle.ctl.proofs.BoolLaws.{and-make, or-1, T-true}
 use Rattle.ctl.proofs.LeanOrder.{lean-members}
-use Rattle.layout.specs.Layout.{lines, endsRight, startsRight, layoutRight}
-use Rattle.layout.proofs.FormulaTexts.{texts-length}
 use Rattle.sheet.specs.Refusal.{readRefusal}
 use Rattle.sheet.specs.Reading.{formulas, globalsOf, goalOf, letterOf}
-use Rattle.sheet.proofs.RefusalLaws.{right-layout}
-use Rattle.sheet.proofs.SizeLaws.{formulas-many}
+use Rattle.sheet.proofs.SizeLaws.{formulas-many, texts-some}
 use Rattle.members.specs.Members.{Canon, Members, c-and, c-ar, c-au, c-ax, c-er, c-eu, c-ex, c-fls, c-lit, c-nlit, c-or, c-tru, forms, leftW, tagW, wordOf}
 use Rattle.members.proofs.MemberLaws.{canon-parts, forms-length, member, word-left, word-tag}
 use Rattle.lean.proofs.LeanLaws.{form-word}
@@ -112,15 +108,7 @@ globals-goal (p ∷ q ∷ r) h = ap (λ k. p ∷ k) (globals-goal (q ∷ r) (ome
 
 -- a sheet that is read has a formula
 pub formulas-some : (s : List ℕ) → readRefusal s ≡ 0 → 0 < length (formulas s)
-unfolding layoutRight
-formulas-some s z =
-    let a = and-both (endsRight s && leb 3 (length (lines s)) && leb (length (lines s)) 7) (startsRight (drop 2 (lines s))) (right-layout s z) in
-    let b = and-both (endsRight s && leb 3 (length (lines s))) (leb (length (lines s)) 7) (a .0) in
-    let c = leb-true 3 (length (lines s)) (and-both (endsRight s) (leb 3 (length (lines s))) (b .0) .1) in
-    let d = texts-length (drop 2 (lines s)) in
-    let e = length-drop 2 (lines s) in
-    let f = formulas-many s z in
-    omega arith
+formulas-some s z = let a = texts-some s z in let b = formulas-many s z in omega arith
 
 module _ (s : List ℕ) (z : readRefusal s ≡ 0) where
   pub forms-split : map positive (globalsOf (formulas s)) ++ (positive (goalOf (formulas s)) ∷ []) ≡ R.forms s

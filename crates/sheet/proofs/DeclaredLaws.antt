@@ -32,6 +32,7 @@ use Rattle.layout.proofs.Letters.{sheet-letters}
 use Rattle.sheet.specs.Refusal.{decls, readRefusal}
 use Rattle.sheet.specs.Reading.{formulas}
 use Rattle.sheet.specs.Symbols.{MarkOrName, Field, Fields, Kinded}
+use Rattle.sheet.proofs.RefusalLaws.{right-kinds}
 use Rattle.sheet.proofs.FormulaTrees.{formula-read}
 use Rattle.sheet.proofs.KindLaws.{symbol-iff, field-iff}
 
@@ -109,21 +110,21 @@ fields-declared s A x = (x .sixteen, λ m i. go m (x .each m i .0) (mode-lt (mod
 module _ (s : List ℕ) (z : readRefusal s ≡ 0) where
   symbol-kind : (k : ℕ) → isSymbol (decls s) k ≡ true → MarkOrName s (entryOf (decls s) k - 1)
   symbol-kind k e =
-      let r = symbol-iff s z k .0 (T-true (isSymbol (decls s) k) e) in
+      let r = symbol-iff s (right-kinds s z) k .0 (T-true (isSymbol (decls s) k) e) in
       let i = r .3 in
       let q : r .0 ≡ entryOf (decls s) k - 1 = omega arith in
       subst (MarkOrName s) q (r .2)
 
   mode-field : (m : Mode) → T (isField (decls s) m) → (modeNumber (decls s) m < 16) × Field s (modeNumber (decls s) m % 8)
   mode-field (forward k) t =
-      let r = field-iff s z k .0 t in
+      let r = field-iff s (right-kinds s z) k .0 t in
       let i = r .3 in
       let h = r .2 .0 in
       let f = sheet-letters s .few in
       let q : r .0 ≡ modeNumber (decls s) (forward k) % 8 = omega arith in
       (omega arith, subst (Field s) q (r .2))
   mode-field (backward k) t =
-      let r = field-iff s z k .0 t in
+      let r = field-iff s (right-kinds s z) k .0 t in
       let i = r .3 in
       let h = r .2 .0 in
       let f = sheet-letters s .few in

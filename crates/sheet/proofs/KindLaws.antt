@@ -1,4 +1,4 @@
--- The declarations of a sheet that is not refused say what lines 1 and 2 do: a letter is taken for a mark or a name exactly if it is declared as one, and for a field exactly if it is
+-- The declarations of a sheet say what lines 1 and 2 do: a letter is taken for a mark or a name exactly if it is declared as one, and for a field exactly if it is
 -- declared as one. Assumes nothing.
 use mathlib.Core.Path.{_≡_, refl, sym, ap, _∙_}
 use mathlib.Core.Logic.{_⊎_, inl, inr, _↔_}
@@ -18,9 +18,8 @@ use Rattle.layout.specs.Text.{same, split}
 use Rattle.layout.specs.Layout.{space, markWord, nameWord, fieldWord, nameCount, kindOf, kindRight, kindsFrom, kindsOf, lineOf, letters, kinds}
 use Rattle.layout.proofs.Letters.{sheet-letters}
 use Rattle.layout.proofs.Entries.{sheet-entry, sheet-no-entry}
-use Rattle.sheet.specs.Refusal.{decls, readRefusal}
+use Rattle.sheet.specs.Refusal.{decls}
 use Rattle.sheet.specs.Symbols.{DeclaredAs, MarkOrName, Field}
-use Rattle.sheet.proofs.RefusalLaws.{right-kinds}
 
 -- ---- a kind is 1, 2 or 3
 abbrev Kind : ℕ → Type 0
@@ -61,8 +60,8 @@ mark-or-name : (n : ℕ) → Kind n → (n ≡ 3 → ⊥) → Dec (n ≡ 1) → 
 mark-or-name n h f (yes e) = inl e
 mark-or-name n h f (no e) = inr (omega arith)
 
--- ---- the entry of a letter
-module _ (s : List ℕ) (z : readRefusal s ≡ 0) where
+-- ---- the entry of a letter, where each letter has a kind
+module _ (s : List ℕ) (c : length (kinds s) ≡ length (letters s)) where
   data Entry (k : ℕ) : Type 0 where
     none : entryOf (decls s) k ≡ 0 → Entry k
     symbol : (j : ℕ) → DeclaredAs s k j → MarkOrName s j → entryOf (decls s) k ≡ 1 + j → Entry k
@@ -71,7 +70,6 @@ module _ (s : List ℕ) (z : readRefusal s ≡ 0) where
   declared : (k j : ℕ) → DeclaredAs s k j → (b : Bool) → eqb (getD (kinds s) j 0) 3 ≡ b → entryOf (decls s) k ≡ cond b (9 + j) (1 + j) → Entry k
   declared k j d true e q = field j d (d .0, eqb-true _ _ e) q
   declared k j d false e q =
-      let c = right-kinds s z in
       let h = d .0 in
       symbol j d (h, mark-or-name (getD (kinds s) j 0) (sheet-kind s j (omega arith)) (eqb-false _ _ e) (ℕ-discrete (getD (kinds s) j 0) 1)) q
 
@@ -82,7 +80,6 @@ module _ (s : List ℕ) (z : readRefusal s ≡ 0) where
       go (inl r) =
           let l = eqb-true (getD (letters s) (r .0) 0) (97 + k) (r .2) in
           let h = r .1 in
-          let c = right-kinds s z in
           let i : getD (letters s) (r .0) 0 - 97 ≡ k = omega arith in
           declared k (r .0) (h, l) (eqb (getD (kinds s) (r .0) 0) 3) refl (ap (λ (n : ℕ). getD (decls s) n 0) (sym i) ∙ sheet-entry s (r .0) h (omega arith))
       go (inr f) =
