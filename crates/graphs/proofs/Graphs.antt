@@ -20,10 +20,11 @@ use Rattle.evaluator.specs.Rows.{rowOf}
 use Rattle.snapshot.specs.Read.{byteStep, fits, judged, lineCount, lineFits, lineStore, readSnapshot, run, starts, twice}
 use Rattle.snapshot.specs.Store.{entryAt, ofStore}
 use Rattle.layout.specs.Text.{begins, ended, has, same, split}
-use Rattle.layout.specs.Layout.{anyLong, byteWrong, declare, declared, endsRight, kindOf, kindRight, kindsFrom, kindsOf, layoutRight, lengthWrong, nameCount, nameRight, namesFrom, namesOf, startsRight, textsOf}
+use Rattle.layout.specs.Layout.{anyLong, byteWrong, endsRight, layoutRight, lengthWrong, startsRight, textsOf}
+use Rattle.head.specs.Head.{declare, declared, kindOf, kindRight, kindsFrom, kindsOf, nameCount, nameRight, namesFrom, namesOf}
 use Rattle.token.specs.Token.{pairAt, pairOf, signOf, singleOf, skip, spaces, tokenAt, tokenFrom}
-use Rattle.syntax.specs.Operators.{choiceOf}
-use Rattle.syntax.specs.Modes.{bracesAt, markedOf, modeAt, modesAt, withMode}
+use Rattle.operators.specs.Operators.{choiceOf}
+use Rattle.operators.specs.Modes.{bracesAt, markedOf, modeAt, modesAt, withMode}
 use Rattle.syntax.specs.Parse.{formulaAt, letterLow, lineAt, pathFrom, unitAt}
 use Rattle.sheet.specs.Sheet.{trees}
 use Rattle.sheet.specs.Reading.{globalsOf, goalOf}

@@ -5,8 +5,9 @@ use mathlib.Core.List.{List, [], _∷_}
 use Prim.Native.Nat.{ℕ, suc, _+_, _≤_, _<_}
 use native.Mathlib.Omega.{arith}
 use lib.ListN.{length, drop, drop-of-length-le}
+use lib.Seq.{drop-drop}
 use Rattle.layout.specs.Text.{part, endOf, split, ended, begins}
-use Rattle.layout.specs.Layout.{newline, linesFrom, NextLine, allWord, goalWord, startsRight}
+use Rattle.layout.specs.Layout.{newline, lines, linesFrom, NextLine, allWord, goalWord, startsRight}
 use Rattle.layout.proofs.TextLaws.{cut-last, cut-next, lines-last, lines-next}
 
 -- past the end there is no line
@@ -59,3 +60,7 @@ module _ (s : List ℕ) (at e f : ℕ) (is : e ≡ endOf newline s at) (then : f
 pub starts-end : (s : List ℕ) (at : ℕ) → length s ≤ at → startsRight (linesFrom s at) ≡ true
 unfolding startsRight
 starts-end s at h = rw (lines-end s at h)
+
+-- the third line
+pub third-rest : (s : List ℕ) (a b : ℕ) → NextLine s 0 a → NextLine s a b → linesFrom s b ≡ drop 2 (lines s)
+third-rest s a b n m = rw (m .rest, n .rest, drop-drop)

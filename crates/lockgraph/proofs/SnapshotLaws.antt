@@ -16,9 +16,10 @@ use Rattle.ctl.specs.Raw.{Raw}
 use Rattle.ctl.specs.Snapshot.{NamesSingle, ofLines}
 use Rattle.evaluator.proofs.RowMeaning.{globals-bit, goal-bit, row-length}
 use Rattle.evaluator.specs.Rows.{rowOf}
-use Rattle.layout.proofs.HeadLaws.{line-first}
-use Rattle.layout.proofs.Letters.{sheet-letters}
-use Rattle.layout.specs.Layout.{kinds, lineOf}
+use Rattle.head.proofs.HeadLaws.{line-first}
+use Rattle.head.proofs.Letters.{sheet-letters}
+use Rattle.layout.specs.Layout.{lineOf}
+use Rattle.head.specs.Head.{kinds}
 use Rattle.layout.specs.Text.{endOf}
 use Rattle.sheet.proofs.RefusalLaws.{right-kinds, some-symbols}
 use Rattle.sheet.specs.Reading.{formulas, globalsOf, goalOf, isName}

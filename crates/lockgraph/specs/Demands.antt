@@ -17,7 +17,8 @@ use Rattle.ctl.specs.Verdict.{ClosedIn, HasGoal, familyOf}
 use Rattle.ctl.specs.Demand3 as Whole
 use Rattle.ctl.specs.Demand3.{Fits, GlobalsHold, NodeType}
 use Rattle.wordset.specs.Words.{member}
-use Rattle.layout.specs.Layout.{kinds, lineOf}
+use Rattle.layout.specs.Layout.{lineOf}
+use Rattle.head.specs.Head.{kinds}
 use Rattle.snapshot.specs.Answered.{Answered}
 use Rattle.snapshot.specs.Text.{Text}
 use Rattle.sheet.specs.Reading.{formulas, globalsOf, goalOf, isName, letterOf}

@@ -9,7 +9,8 @@ use Rattle.ctl.specs.Positive.{positive}
 use Rattle.ctl.specs.Tableau.{startTypes}
 use Rattle.ctl.specs.Verdict as Ctl
 use Rattle.ctl.specs.Verdict.{roundsOf}
-use Rattle.layout.specs.Layout.{kinds, lineOf}
+use Rattle.layout.specs.Layout.{lineOf}
+use Rattle.head.specs.Head.{kinds}
 use Rattle.sheet.specs.Reading.{formulas, globalsOf, goalOf}
 use Rattle.reader.specs.Reader.{refusalOf}
 use Rattle.prepare.specs.Prepared.{tableauIn}

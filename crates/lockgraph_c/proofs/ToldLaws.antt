@@ -8,7 +8,7 @@ use borrow.Author.Tests.{ne-eqb}
 use lib.ListN.{length, take, drop}
 use Rattle.layout.specs.Layout.{LastText, lines, linesFrom}
 use Rattle.layout.specs.Text.{part}
-use Rattle.layout.specs.declared.Span.{Span}
+use Rattle.layout.specs.declared.formulas.Span.{Span}
 use Rattle.layout.proofs.ScanLaws.{part-length}
 use Rattle.sheet.proofs.SheetLaws.{goal-is, goal-place, goal-refused, start-refused}
 use Rattle.reader.proofs.ReadLaws.{layout-within}

@@ -21,7 +21,7 @@ use Rattle.ctl.proofs.LeanOrder.{lean-unique}
 use Rattle.ctl.proofs.ListLaws.{below-in, below-out, keep-in, keep-length, keep-out, length-count, map-in}
 use Rattle.ctl.proofs.SortLaws.{keep-unique}
 use Rattle.closure.proofs.CloseLaws.{unique-length}
-use Rattle.layout.specs.Layout.{kindOf, kindRight, kinds, kindsFrom, kindsOf, nameCount}
+use Rattle.head.specs.Head.{kindOf, kindRight, kinds, kindsFrom, kindsOf, nameCount}
 use Rattle.sheet.specs.Reading.{formulas, globalsOf, goalOf, letterOf}
 use Rattle.prepare.specs.Prepared.{tableauIn}
 

@@ -14,7 +14,7 @@ use Rattle.ctl.specs.Positive.{positive}
 use Rattle.ctl.specs.Tableau.{Tableau, isName, namePlaces, otherPlaces, tableauOf}
 use Rattle.ctl.specs.Demand3.{sheetTableau}
 use Rattle.ctl.proofs.ListLaws.{below-out, keep-same}
-use Rattle.layout.specs.Layout.{kinds}
+use Rattle.head.specs.Head.{kinds}
 use Rattle.sheet.specs.Refusal.{readRefusal}
 use Rattle.sheet.specs.Reading.{formulas, globalsOf}
 use Rattle.truth.specs.Tables.{form}

@@ -8,10 +8,11 @@ use Rattle.ctl.specs.Expansion.{expand, parts}
 use Rattle.ctl.specs.Closure.{elemF, dedupe, orSpine, andSpine, exSpine, axSpine, spine, closureOf, closureAll, closure}
 use Rattle.ctl.specs.Lean.{bytesLt, printLt, symbolLt, isNext, lean}
 use Rattle.layout.specs.Text.{split, ended, same, begins, has}
-use Rattle.layout.specs.Layout.{anyLong, lengthWrong, byteWrong, startsRight, endsRight, layoutRight, nameRight, namesFrom, namesOf, kindOf, nameCount, kindRight, kindsFrom, kindsOf, textsOf, declare, declared}
+use Rattle.layout.specs.Layout.{anyLong, lengthWrong, byteWrong, startsRight, endsRight, layoutRight, textsOf}
+use Rattle.head.specs.Head.{nameRight, namesFrom, namesOf, kindOf, nameCount, kindRight, kindsFrom, kindsOf, declare, declared}
 use Rattle.token.specs.Token.{skip, spaces, signOf, singleOf, pairOf, pairAt, tokenFrom, tokenAt}
-use Rattle.syntax.specs.Operators.{choiceOf}
-use Rattle.syntax.specs.Modes.{markedOf, withMode, modeAt, modesAt, bracesAt}
+use Rattle.operators.specs.Operators.{choiceOf}
+use Rattle.operators.specs.Modes.{markedOf, withMode, modeAt, modesAt, bracesAt}
 use Rattle.syntax.specs.Parse.{letterLow, pathFrom, formulaAt, unitAt, lineAt}
 use Rattle.sheet.specs.Sheet.{trees}
 use Rattle.sheet.specs.Refusal.{conditions, grammarWrong, symbolsWrong, bracesWrong}

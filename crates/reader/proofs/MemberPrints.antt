@@ -18,10 +18,10 @@ use Rattle.ctl.specs.Alphabet.{Over}
 use Rattle.ctl.proofs.ListLaws.{map-out}
 use Rattle.ctl.proofs.ModeLaws.{modes-in, modes-one, mode-lt}
 use Rattle.ctl.proofs.UsesLaws.{uses-all, uses-signed, closure-uses}
-use Rattle.syntax.specs.Canonical.{asRaw, entryFor, FieldsKnown, Known}
-use Rattle.syntax.proofs.RoundTrip.{positive-same, print-parses}
-use Rattle.layout.specs.Layout.{letters, kinds}
-use Rattle.layout.proofs.Entries.{sheet-entry}
+use Rattle.grammar.specs.Canonical.{asRaw, entryFor, FieldsKnown, Known}
+use Rattle.grammar.proofs.RoundTrip.{positive-same, print-parses}
+use Rattle.head.specs.Head.{letters, kinds}
+use Rattle.head.proofs.Entries.{sheet-entry}
 use Rattle.sheet.specs.Refusal.{decls, readRefusal}
 use Rattle.sheet.specs.Reading.{formulas, letterOf}
 use Rattle.sheet.specs.ReadAs.{ReadAs}

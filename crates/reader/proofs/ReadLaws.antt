@@ -10,8 +10,9 @@ use Rattle.ctl.specs.Raw.{Raw}
 use Rattle.ctl.specs.Alphabet.{Alphabet}
 use Rattle.ctl.specs.Lean.{lean}
 use Rattle.syntax.specs.Raw.{At}
-use Rattle.layout.specs.Layout.{letters, kinds, layoutRight}
-use Rattle.layout.proofs.Letters.{sheet-letters}
+use Rattle.layout.specs.Layout.{layoutRight}
+use Rattle.head.specs.Head.{letters, kinds}
+use Rattle.head.proofs.Letters.{sheet-letters}
 use Rattle.sheet.specs.declared.Sheet.{Sheet}
 use Rattle.sheet.specs.Refusal.{readRefusal}
 use Rattle.sheet.specs.Sheet.{SheetRead, Right}

@@ -8,7 +8,7 @@ use Rattle.ctl.specs.Formula.{Form, tru}
 use Rattle.ctl.specs.Positive.{positive}
 use Rattle.ctl.specs.Closure.{closure}
 use Rattle.ctl.specs.Lean.{lean}
-use Rattle.layout.specs.Layout.{letters, kinds}
+use Rattle.head.specs.Head.{letters, kinds}
 use Rattle.sheet.specs.Refusal.{conditions, firstOf}
 use Rattle.sheet.specs.Reading.{formulas, letterOf}
 use Rattle.members.specs.Members as Members

@@ -3,8 +3,8 @@ use mathlib.Core.List.{List}
 use Prim.Native.Nat.{ℕ}
 use lib.ListN.{length}
 use Rattle.ctl.specs.Alphabet.{Alphabet}
-use Rattle.layout.specs.Layout.{letters}
-use Rattle.layout.proofs.Letters.{sheet-letters}
+use Rattle.head.specs.Head.{letters}
+use Rattle.head.proofs.Letters.{sheet-letters}
 use Rattle.sheet.specs.Reading.{letterOf}
 
 pub sheet-alphabet : (s : List ℕ) → Alphabet (letterOf s) (length (letters s))

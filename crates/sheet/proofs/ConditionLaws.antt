@@ -11,8 +11,8 @@ use Rattle.token.specs.Token.{pick}
 use Rattle.ctl.specs.Lists.{_∈_}
 use Rattle.ctl.proofs.ListLaws.{any-in, any-out}
 use Rattle.syntax.specs.Parse.{Out, good, bad}
-use Rattle.syntax.specs.Grammar.{Tree, Line, symbolWrong, bracesWrong, lowOf}
-use Rattle.syntax.proofs.GrammarLaws.{line-derives, line-parses, line-refused}
+use Rattle.grammar.specs.Grammar.{Tree, Line, symbolWrong, bracesWrong, lowOf}
+use Rattle.grammar.proofs.GrammarLaws.{line-derives, line-parses, line-refused}
 use Rattle.layout.specs.Layout.{texts}
 use Rattle.sheet.specs.Refusal.{decls, read, unread, finds, grammarWrong, symbolsWrong, bracesWrong as bracesWrongIn}
 

@@ -12,9 +12,9 @@ use lib.ListN.{length, length-map}
 use borrow.Author.Tests.{not-false}
 use Rattle.token.specs.declared.Modal.the-variants.{Ex, Ax, Ef, Af, Eg, Ag}
 use Rattle.token.specs.declared.Modal.{Modal}
-use Rattle.syntax.specs.declared.Binary.{Binary}
+use Rattle.operators.specs.declared.kinds.Binary.{Binary}
 use Rattle.token.specs.Token.{pick}
-use Rattle.syntax.specs.declared.Binary.the-variants.{Eu, Au, Er, Ar}
+use Rattle.operators.specs.declared.kinds.Binary.the-variants.{Eu, Au, Er, Ar}
 use Rattle.ctl.specs.Lists.{_∈_}
 use Rattle.ctl.specs.Numbers.{hasBit}
 use Rattle.ctl.specs.Modes.{modes, allModes}
@@ -25,10 +25,10 @@ use Rattle.ctl.proofs.ListLaws.{any-in, any-out, getD-below}
 use Rattle.ctl.proofs.NumberLaws.{number-place, number-lt}
 use Rattle.ctl.proofs.ModeLaws.{modes-in, mode-lt}
 use Rattle.ctl.proofs.UsesLaws.{uses-raw}
-use Rattle.syntax.specs.Operators.{modal as modalRaw, binary as pathRaw}
-use Rattle.syntax.specs.Grammar.{Mode, forward, backward, Tree, zero as zeroTree, one, letter, neg, infixed, modal, path, entryOf, isSymbol, isField, modeNumber, holdsMode, modeSet, resolve, someNoField, symbolWrong, emptyOrTwice, bracesWrong}
-use Rattle.layout.specs.Layout.{letters}
-use Rattle.layout.proofs.Letters.{sheet-letters}
+use Rattle.operators.specs.Operators.{modal as modalRaw, binary as pathRaw}
+use Rattle.grammar.specs.Grammar.{Mode, forward, backward, Tree, zero as zeroTree, one, letter, neg, infixed, modal, path, entryOf, isSymbol, isField, modeNumber, holdsMode, modeSet, resolve, someNoField, symbolWrong, emptyOrTwice, bracesWrong}
+use Rattle.head.specs.Head.{letters}
+use Rattle.head.proofs.Letters.{sheet-letters}
 use Rattle.sheet.specs.Refusal.{decls, readRefusal}
 use Rattle.sheet.specs.Reading.{formulas}
 use Rattle.sheet.specs.Symbols.{MarkOrName, Field, Fields, Kinded}

@@ -7,8 +7,8 @@ use native.Mathlib.Numerals.{add-one}
 use native.Mathlib.Omega.{arith}
 use lib.ListN.{length, take, set}
 use lib.Seq.{length-take-le, take-suc-set}
-use Rattle.syntax.specs.declared.Parse.{Parse}
-use Rattle.syntax.specs.declared.Parse.the-variants.{Done, Wrong}
+use Rattle.syntax.specs.declared.nodes.Parse.{Parse}
+use Rattle.syntax.specs.declared.nodes.Parse.the-variants.{Done, Wrong}
 use Rattle.syntax.specs.Parse.{Out, good, bad, lineAt, LineReads}
 use Rattle.syntax.proofs.Reading.{Read, meets-done, meets-wrong}
 use Rattle.layout.specs.Text.{endOf}

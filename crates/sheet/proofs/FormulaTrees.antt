@@ -16,9 +16,10 @@ use Rattle.ctl.proofs.BoolLaws.{false-T, true-T, true-and-false}
 use Rattle.ctl.proofs.ListLaws.{getD-in, map-out}
 use Rattle.token.specs.Token.{pick}
 use Rattle.syntax.specs.Parse.{Out, good, bad}
-use Rattle.syntax.specs.Grammar.{lowOf, symbolWrong, bracesWrong}
-use Rattle.syntax.proofs.GrammarLaws.{line-derives, line-parses, line-refused, line-unique}
-use Rattle.layout.specs.Layout.{texts, layoutRefusal}
+use Rattle.grammar.specs.Grammar.{lowOf, symbolWrong, bracesWrong}
+use Rattle.grammar.proofs.GrammarLaws.{line-derives, line-parses, line-refused, line-unique}
+use Rattle.layout.specs.Layout.{texts}
+use Rattle.head.specs.Head.{layoutRefusal}
 use Rattle.sheet.specs.Refusal.{decls, read, readRefusal}
 use Rattle.sheet.specs.Sheet.{foundRefusal, lineRefusal, lowest, sheetRefusal, trees}
 use Rattle.sheet.specs.Reading.{formulas}

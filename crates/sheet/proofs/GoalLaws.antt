@@ -9,7 +9,7 @@ use Rattle.token.specs.declared.Tok.the-variants.{Infix}
 use Rattle.token.proofs.TokensLaws.{tokens-length}
 use Rattle.ctl.specs.Lists.{_∈_}
 use Rattle.ctl.specs.Raw.{Raw}
-use Rattle.syntax.specs.Grammar.{Tree, IsUnit, is-zero, is-one, is-letter, is-bracketed, is-neg, is-modal, is-path, IsFormula, is-unit, is-operand, is-infixed, Line}
+use Rattle.grammar.specs.Grammar.{Tree, IsUnit, is-zero, is-one, is-letter, is-bracketed, is-neg, is-modal, is-path, IsFormula, is-unit, is-operand, is-infixed, Line}
 use Rattle.layout.specs.Layout.{texts, lastOf, goalOf as goalText}
 use Rattle.sheet.specs.Refusal.{decls, read, readRefusal}
 use Rattle.sheet.specs.Reading.{formulas, goalOf}

@@ -13,11 +13,12 @@ use borrow.Author.Tests.{eqb-true, eqb-false, ltb-true}
 use Rattle.ctl.specs.Lists.{_∈_}
 use Rattle.ctl.proofs.BoolLaws.{and-0, and-1, and-in, and-both}
 use Rattle.ctl.proofs.ListLaws.{find, getD-in}
-use Rattle.syntax.specs.Grammar.{forward, entryOf, isSymbol, isField}
+use Rattle.grammar.specs.Grammar.{forward, entryOf, isSymbol, isField}
 use Rattle.layout.specs.Text.{same, split}
-use Rattle.layout.specs.Layout.{space, markWord, nameWord, fieldWord, nameCount, kindOf, kindRight, kindsFrom, kindsOf, lineOf, letters, kinds}
-use Rattle.layout.proofs.Letters.{sheet-letters}
-use Rattle.layout.proofs.Entries.{sheet-entry, sheet-no-entry}
+use Rattle.head.specs.Head.{space, markWord, nameWord, fieldWord, nameCount, kindOf, kindRight, kindsFrom, kindsOf, letters, kinds}
+use Rattle.layout.specs.Layout.{lineOf}
+use Rattle.head.proofs.Letters.{sheet-letters}
+use Rattle.head.proofs.Entries.{sheet-entry, sheet-no-entry}
 use Rattle.sheet.specs.Refusal.{decls}
 use Rattle.sheet.specs.Symbols.{DeclaredAs, MarkOrName, Field}
 

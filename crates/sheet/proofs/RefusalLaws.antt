@@ -11,7 +11,8 @@ use borrow.Author.Tests.{eqb-true, ne-eqb, not-false}
 use Rattle.ctl.specs.Lists.{_∈_, anyOf}
 use Rattle.ctl.proofs.BoolLaws.{true-and-false}
 use Rattle.syntax.specs.Parse.{Out, good, bad}
-use Rattle.layout.specs.Layout.{lengthWrong, byteWrong, kinds, layoutRight, letters, texts, layoutRefusal}
+use Rattle.layout.specs.Layout.{lengthWrong, byteWrong, layoutRight, texts}
+use Rattle.head.specs.Head.{kinds, letters, layoutRefusal}
 use Rattle.sheet.specs.Refusal.{decls, read, unread, finds, namesWrong, kindsWrong, grammarWrong, symbolsWrong, bracesWrong, firstOf, conditions, readRefusal}
 use Rattle.sheet.specs.Sheet.{foundRefusal, lineRefusal, lowest, sheetRefusal}
 

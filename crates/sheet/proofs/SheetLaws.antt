@@ -8,11 +8,12 @@ use lib.Dec.{leb, eqb}
 use lib.ListN.{length, drop, length-drop}
 use borrow.Author.Tests.{eq-eqb, ne-eqb, lt-ltb, le-ltb, leb-true}
 use Rattle.syntax.specs.Parse.{Out, good, bad}
-use Rattle.layout.specs.declared.Head.{Head}
+use Rattle.head.specs.declared.Head.{Head}
 use native.Mathlib.Decide.{decLe}
 use Rattle.ctl.proofs.BoolLaws.{and-both}
-use Rattle.layout.specs.declared.Span.{Span}
-use Rattle.layout.specs.Layout.{lines, letters, kinds, texts, textsOf, linesFrom, endsRight, startsRight, layoutRight, layoutRefusal, Accepted, HeadRead, LastText, goalOf, lastOf}
+use Rattle.layout.specs.declared.formulas.Span.{Span}
+use Rattle.layout.specs.Layout.{lines, texts, textsOf, linesFrom, endsRight, startsRight, layoutRight, LastText, goalOf, lastOf}
+use Rattle.head.specs.Head.{letters, kinds, layoutRefusal, Accepted, HeadRead}
 use Rattle.layout.proofs.ScanLaws.{part-length}
 use Rattle.layout.proofs.LineLaws.{lines-end}
 use Rattle.layout.proofs.FormulaTexts.{texts-length}

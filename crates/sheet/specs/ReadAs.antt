@@ -4,7 +4,7 @@ use mathlib.Core.Bool.{false}
 use mathlib.Core.List.{List}
 use Prim.Native.Nat.{ℕ}
 use Rattle.ctl.specs.Raw.{Raw}
-use Rattle.syntax.specs.Grammar.{Tree, Line, resolve, symbolWrong, bracesWrong}
+use Rattle.grammar.specs.Grammar.{Tree, Line, resolve, symbolWrong, bracesWrong}
 
 -- Under declarations: the grammar derives one tree from the text and no other, the formula is that tree with its symbols looked up, and in the tree no symbol (7) and no
 -- braces (8) are wrong

@@ -5,7 +5,8 @@ use Prim.Native.Nat.{ℕ}
 use lib.ListN.{getD}
 use lib.Dec.{eqb}
 use Rattle.ctl.specs.Raw.{Raw}
-use Rattle.layout.specs.Layout.{letters, kinds, texts}
+use Rattle.head.specs.Head.{letters, kinds}
+use Rattle.layout.specs.Layout.{texts}
 use Rattle.sheet.specs.Refusal.{decls}
 use Rattle.sheet.specs.Sheet.{trees}
 

@@ -6,7 +6,8 @@ use lib.ListN.{length}
 use lib.Dec.{eqb}
 use Rattle.ctl.specs.Lists.{anyOf}
 use Rattle.syntax.specs.Parse.{Out, good, bad, lineAt}
-use Rattle.layout.specs.Layout.{lengthWrong, byteWrong, layoutRight, letters, kinds, texts, declared}
+use Rattle.layout.specs.Layout.{lengthWrong, byteWrong, layoutRight, texts}
+use Rattle.head.specs.Head.{letters, kinds, declared}
 
 -- the declarations of a sheet
 abbrev pub decls : List ℕ → List ℕ

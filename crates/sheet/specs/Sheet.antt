@@ -8,7 +8,8 @@ use lib.Dec.{ltb, eqb}
 use Rattle.syntax.specs.Raw.{Raw, size, nodes, Wrote, At}
 use Rattle.syntax.specs.Parse.{Out, good, bad}
 use Rattle.sheet.specs.Refusal.{decls, read}
-use Rattle.layout.specs.Layout.{letters, kinds, texts, layoutRefusal, goalOf}
+use Rattle.layout.specs.Layout.{texts, goalOf}
+use Rattle.head.specs.Head.{letters, kinds, layoutRefusal}
 use Rattle.sheet.specs.declared.One.{One}
 use Rattle.sheet.specs.declared.Formulas.{Formulas}
 use Rattle.sheet.specs.declared.Sheet.{Sheet}

@@ -9,7 +9,7 @@ use Rattle.ctl.specs.Formula.{Form}
 use Rattle.ctl.specs.Raw.{Raw}
 use Rattle.ctl.specs.Modes.{modes}
 use Rattle.ctl.specs.Alphabet.{Uses, UsesRaw}
-use Rattle.layout.specs.Layout.{letters, kinds}
+use Rattle.head.specs.Head.{letters, kinds}
 
 module _ (s : List ℕ) where
   -- letter k of the alphabet, from 0, is declared on line 1 as symbol j

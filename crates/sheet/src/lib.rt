@@ -75,7 +75,7 @@ fn read_formulas(s: &[u8], from: usize, decl: &[u8], tab: &mut [u64]) -> Formula
         let a = layout::text_at(s, at, e);
         let one = read_one(&s[a..e], decl, tab, n);
         n = one.count;
-        low = syntax::lower(low, one.low);
+        low = operators::lower(low, one.low);
         ends[k] = n;
         k += 1;
         at = e + 1;
@@ -120,7 +120,7 @@ pub fn read_sheet(s: &[u8], tab: &mut [u64]) -> Sheet
     requires { ⌜ (length (now tab) ≤ 1024) × (length (now s) ≤ 1024 → length (now s) ≤ length (now tab)) ⌝ }
     ensures { λ r. ⌜ SheetRead (now (s .entry)) (now (tab .exit)) r ⌝ }
 {
-    let head = layout::read_head(s);
+    let head = head::read_head(s);
     let first = head.refusal;
     if first != 0 {
         return refused(first);

@@ -1,0 +1,10 @@
+pub mod Examples
+pub mod TreeReader
+pub mod ModeSets
+pub mod BracesMatches
+pub mod TreeMatches
+pub mod TreeSound
+pub mod TreeComplete
+pub mod GrammarLaws
+pub mod CanonicalLaws
+pub mod RoundTrip

@@ -1,0 +1,6 @@
+pub mod WordLaws
+pub mod KindLaws
+pub mod DeclareLaws
+pub mod HeadLaws
+pub mod Letters
+pub mod Entries

@@ -1,0 +1,76 @@
+-- `bytes::any_long` meets its contract. Assumes nothing.
+use native.Mathlib.Omega.{arith}
+use Rattle.layout.proofs.ScanLaws.{long-last, long-here, long-next, long-end}
+use Rattle.layout.specs.Layout.{anyLong, newline}
+use Rattle.layout.specs.Text.{split}
+use lib.ListN.{length, drop}
+use Prim.Native.Nat.{_≤_, _-_}
+use mathlib.Core.Path.{_≡_, refl, sym, _∙_}
+use Rattle.layout.proofs.bytes.any_long.Statement.{statement}
+use Rattle.layout.proofs.bytes.any_long.Tie as tie
+
+abbrev Inv-loop : tie.InvT-loop
+Inv-loop s at₀ at = (at ≤ length s) × (anyLong (split newline (drop at s)) ≡ anyLong (split newline s))
+
+abbrev μ-loop : tie.MeasureT-loop
+μ-loop s at₀ at = length s - at
+
+loop-holds : tie.Need-loop-holds Inv-loop μ-loop
+loop-holds c = (omega arith, refl)
+
+end-of-requires : tie.Need-end-of-requires Inv-loop μ-loop
+end-of-requires c κs = omega arith
+
+sub-result : tie.Need-sub-result Inv-loop μ-loop
+sub-result c = omega arith
+
+returns : tie.Need-returns Inv-loop μ-loop
+returns c =
+    let b1 = c .before in
+    let b3 = b1 .before .before in
+    sym (long-last _ _ _ (b1 .end-of .ensures .0) (b3 .loop .inv .0) (b1 .end-of .ensures .1 .1) (c .if1 .taken)) ∙ b3 .loop .inv .1
+
+sub-if2 : tie.Need-sub-if2 Inv-loop μ-loop
+sub-if2 c = omega arith
+
+returns-2 : tie.Need-returns-2 Inv-loop μ-loop
+returns-2 c =
+    let b1 = c .before in
+    let b2 = b1 .before in
+    let b4 = b2 .before .before in
+    sym (long-here _ _ _ (b2 .end-of .ensures .0) (b4 .loop .inv .0) (b1 .if1 .left) (c .if2 .taken)) ∙ b4 .loop .inv .1
+
+add-at : tie.Need-add-at Inv-loop μ-loop
+add-at c = omega arith
+
+loop-less : tie.Need-loop-less Inv-loop μ-loop
+loop-less c = omega arith
+
+loop-again : tie.Need-loop-again Inv-loop μ-loop
+loop-again c =
+    let b1 = c .before in
+    let b2 = b1 .before in
+    let b4 = b2 .before .before in
+    (omega arith, long-next _ _ _ (b2 .end-of .ensures .0) (b4 .loop .inv .0) (b1 .if1 .left) (c .if2 .left) ∙ b4 .loop .inv .1)
+
+returns-3 : tie.Need-returns-3 Inv-loop μ-loop
+returns-3 c =
+    let b1 = c .before in
+    sym (long-end _ _ (c .loop-test .left)) ∙ b1 .loop .inv .1
+
+pub any-long-spec : {M : Type 1} → statement M
+any-long-spec =
+    tie.close
+    (tie.spec
+    Inv-loop
+    μ-loop
+    loop-holds
+    end-of-requires
+    sub-result
+    returns
+    sub-if2
+    returns-2
+    add-at
+    loop-less
+    loop-again
+    returns-3)
