@@ -42,7 +42,7 @@ module _ (s decl : List ℕ) where
     more-same mask low n Comma at = before-same mask low n (h at (marked decl mask n .mask) (min low (marked decl mask n .low)))
     more-same mask low n Other at = no-list
 
-    mode-same : (mask low : ℕ) (k : Tok) (at : ℕ) → SameModes mask low (modeOn more k (tokens (drop at s))) (moreAfter s decl more′ low (modeFrom s decl mask k at))
+    mode-same : (mask low : ℕ) (k : Tok) (at : ℕ) → SameModes mask low (modeOn more k (tokens (drop at s))) (moreAfter s decl more′ low (modeFrom decl mask k at))
     mode-same mask low End at = no-list
     mode-same mask low Zero at = no-list
     mode-same mask low One at = no-list

@@ -21,7 +21,7 @@ use Rattle.operators.specs.declared.sets.Marked.{Marked}
 use Rattle.operators.specs.declared.braced.Modes.{Modes}
 use Rattle.operators.specs.declared.braced.Modes.the-variants.{Set, No}
 use Rattle.token.specs.Token.{TokenIs, onOpenBrace, onCloseBrace}
-use Rattle.operators.specs.Modes.{markedOf, withMode, modeFrom, modeAt, moreFrom, moreAfter, modesAt, bracesAt, ModesInside, ModesRead}
+use Rattle.operators.specs.Modes.{markedOf, withMode, modeFrom, modeAt, moreFrom, moreAfter, modesAt, bracesAt, ModeRead, ModesInside, ModesRead}
 use Rattle.token.proofs.Tokens.{token-past}
 
 -- ---- bits
@@ -40,8 +40,8 @@ bit-fits mask m h g ne =
     rw (← or-disjoint mask (2 ^ m) a) b
 
 -- ---- tokens that a rule does not take
-module _ (s decl : List ℕ) (mask at : ℕ) where
-  pub no-mode : (k : Tok) (ks : List ℕ) → OneOf ks (tagOf the-type k) → T (not (hasKey ks 3)) → T (not (hasKey ks 4)) → modeFrom s decl mask k at ≡ No
+module _ (decl : List ℕ) (mask at : ℕ) where
+  pub no-mode : (k : Tok) (ks : List ℕ) → OneOf ks (tagOf the-type k) → T (not (hasKey ks 3)) → T (not (hasKey ks 4)) → modeFrom decl mask k at ≡ No
   no-mode End ks o z0 z1 = refl
   no-mode Zero ks o z0 z1 = refl
   no-mode One ks o z0 z1 = refl
@@ -144,19 +144,16 @@ module _ (mask m b : ℕ) (e : b ≡ 2 ^ m) (fits : mask < 65536) where
       (rw (ne-eqb (mask / 2 ^ m % 2) 1 ne, e) refl, marked-room g t)
 
 -- ---- one mode
-module _ (s decl : List ℕ) (at mask : ℕ) (t : Token) (i : TokenIs s at t) where
+module _ (decl : List ℕ) (mask : ℕ) (t : Token) where
   -- a letter or a capital, as its entry has it
-  pub mode-forward : (k v : ℕ) (m : Marked) → t .tok ≡ Letter k → v ≡ getD decl k 0 → (m ≡ withMode mask v 0) × (m .mask < 65536) → (Set (t .next) (m .mask) (m .low) ≡ modeAt s decl at mask) × ((at < t .next) × ((t .next ≤ length s) × (m .mask < 65536)))
-  unfolding modeAt
-  mode-forward k v m e a b = (rw (← i .is, e, ← a, ← b .0) refl, (token-past i e refl, (i .inside, b .1)))
+  pub mode-forward : (k v : ℕ) (m : Marked) → t .tok ≡ Letter k → v ≡ getD decl k 0 → (m ≡ withMode mask v 0) × (m .mask < 65536) → ModeRead decl mask t (Set (t .next) (m .mask) (m .low))
+  mode-forward k v m e a b = record { is = rw (e, ← a, ← b .0) refl; inside = (refl, b .1) }
 
-  pub mode-backward : (k v : ℕ) (m : Marked) → t .tok ≡ Capital k → v ≡ getD decl k 0 → (m ≡ withMode mask v 8) × (m .mask < 65536) → (Set (t .next) (m .mask) (m .low) ≡ modeAt s decl at mask) × ((at < t .next) × ((t .next ≤ length s) × (m .mask < 65536)))
-  unfolding modeAt
-  mode-backward k v m e a b = (rw (← i .is, e, ← a, ← b .0) refl, (token-past i e refl, (i .inside, b .1)))
+  pub mode-backward : (k v : ℕ) (m : Marked) → t .tok ≡ Capital k → v ≡ getD decl k 0 → (m ≡ withMode mask v 8) × (m .mask < 65536) → ModeRead decl mask t (Set (t .next) (m .mask) (m .low))
+  mode-backward k v m e a b = record { is = rw (e, ← a, ← b .0) refl; inside = (refl, b .1) }
 
-  pub mode-none : OneOf but-modes (tagOf the-type (t .tok)) → (No ≡ modeAt s decl at mask) × Unit {0}
-  unfolding modeAt
-  mode-none o = (rw (← i .is) (sym (no-mode s decl mask (t .next) (t .tok) but-modes o tt tt)), tt)
+  pub mode-none : OneOf but-modes (tagOf the-type (t .tok)) → ModeRead decl mask t No
+  mode-none o = record { is = sym (no-mode decl mask (t .next) (t .tok) but-modes o tt tt); inside = tt }
 
 -- ---- modes with commas between
 module _ (s decl : List ℕ) (at mask low : ℕ) where
@@ -175,24 +172,32 @@ module _ (s decl : List ℕ) (at mask low : ℕ) where
           never h = omega arith
       go (suc f) h = m f (omega arith) ∙ sym (modes-step f r₁ e)
 
-  pub modes-wrong : (r₁ : Modes) → r₁ ≡ modeAt s decl at mask → r₁ ≡ No → ModesRead s decl at mask low No
-  modes-wrong r₁ e d = modes-read r₁ No e tt (λ f h. rw d refl)
+  -- the first token, and the mode that it is
+  module _ (t : Token) (i : TokenIs s at t) (r₁ : Modes) (a : ModeRead decl mask t r₁) where
+    mode-is : r₁ ≡ modeAt s decl at mask
+    unfolding modeAt
+    mode-is = rw (← i .is) (a .is)
 
-  module _ (r₁ : Modes) (e m l : ℕ) (a : (r₁ ≡ modeAt s decl at mask) × ModesInside (length s) at r₁) (d : r₁ ≡ Set e m l) (t : Token) (i : TokenIs s e t) where
-    pub modes-none : OneOf but-more (tagOf the-type (t .tok)) → ModesRead s decl at mask low No
-    modes-none o = modes-read r₁ No (a .0) tt (λ f h. rw (d, ← i .is) (sym (no-more s decl _ m (min low l) (t .next) (t .tok) but-more o tt tt)))
+    pub modes-wrong : r₁ ≡ No → ModesRead s decl at mask low No
+    modes-wrong d = modes-read r₁ No mode-is tt (λ f h. rw d refl)
 
-    pub modes-last : (n : ℕ) → t .tok ≡ CloseBrace → n ≡ min low l → ModesRead s decl at mask low (Set (t .next) m n)
-    modes-last n k g =
-        let b : (at < e) × ((e ≤ length s) × (m < 65536)) = modes-done (a .1) d in
-        let c : e < t .next = token-past i k refl in
-        modes-read r₁ _ (a .0) (omega arith, (i .inside, b .1 .1)) (λ f h. rw (d, ← i .is, k, g) refl)
+    -- the second token
+    module _ (e m l : ℕ) (d : r₁ ≡ Set e m l) (u : Token) (j : TokenIs s (t .next) u) where
+      pub mode-behind : (e ≡ t .next) × (m < 65536)
+      mode-behind = rw d at (a .inside)
 
-    pub modes-more : (n : ℕ) (r : Modes) → t .tok ≡ Comma → n ≡ min low l → ModesRead s decl (t .next) m n r → ModesRead s decl at mask low r
-    modes-more n r k g u =
-        let b : (at < e) × ((e ≤ length s) × (m < 65536)) = modes-done (a .1) d in
-        let c : e < t .next = token-past i k refl in
-        modes-read r₁ r (a .0) (modes-earlier (length s) at (t .next) r (omega arith) (u .inside)) (λ f h. rw (d, ← i .is, k, ← g) (u .meets f (omega (arith, i .inside))))
+      pub modes-none : OneOf but-more (tagOf the-type (u .tok)) → ModesRead s decl at mask low No
+      modes-none o = modes-read r₁ No mode-is tt (λ f h. rw (d, mode-behind .0, ← j .is) (sym (no-more s decl _ m (min low l) (u .next) (u .tok) but-more o tt tt)))
+
+      pub modes-last : (n : ℕ) → u .tok ≡ CloseBrace → n ≡ min low l → ModesRead s decl at mask low (Set (u .next) m n)
+      modes-last n k g =
+          let c : t .next < u .next = token-past j k refl in
+          modes-read r₁ _ mode-is (omega (arith, i .past), (j .inside, mode-behind .1)) (λ f h. rw (d, mode-behind .0, ← j .is, k, g) refl)
+
+      pub modes-more : (n : ℕ) (r : Modes) → u .tok ≡ Comma → n ≡ min low l → ModesRead s decl (u .next) m n r → ModesRead s decl at mask low r
+      modes-more n r k g w =
+          let c : t .next < u .next = token-past j k refl in
+          modes-read r₁ r mode-is (modes-earlier (length s) at (u .next) r (omega (arith, i .past)) (w .inside)) (λ f h. rw (d, mode-behind .0, ← j .is, k, ← g) (w .meets f (omega (arith, i .past, j .inside))))
 
 -- ---- braces
 module _ (s decl : List ℕ) (at : ℕ) (t : Token) (i : TokenIs s at t) where

@@ -6,6 +6,7 @@ use lib.ListN.{length, getD}
 use lib.Dec.{ltb, leb, eqb}
 use Rattle.token.specs.declared.Tok.{Tok}
 use Rattle.token.specs.declared.Tok.the-variants.{End, Zero, One, Letter, Capital, Operator, Infix, Not, Open, Close, OpenBrace, CloseBrace, Comma, Other}
+use Rattle.token.specs.declared.Token.{Token}
 use Rattle.operators.specs.declared.sets.Marked.{Marked}
 use Rattle.operators.specs.declared.braced.Modes.{Modes}
 use Rattle.operators.specs.declared.braced.Modes.the-variants.{Set, No}
@@ -24,8 +25,8 @@ withMode mask v back = pick (ltb v 9) (record { mask = mask; low = 7 }) (pick (l
 abbrev pub found : Marked → ℕ → Modes
 found m at = Set at (m .mask) (m .low)
 
-module _ (s decl : List ℕ) where
-  -- one mode: a field's letter goes forward, its capital backward
+-- one mode: a field's letter goes forward, its capital backward
+module _ (decl : List ℕ) where
   abbrev pub modeFrom : ℕ → Tok → ℕ → Modes
   modeFrom mask (Letter k) at = found (withMode mask (getD decl k 0) 0) at
   modeFrom mask (Capital k) at = found (withMode mask (getD decl k 0) 8) at
@@ -42,8 +43,9 @@ module _ (s decl : List ℕ) where
   modeFrom mask Comma at = No
   modeFrom mask Other at = No
 
+module _ (s decl : List ℕ) where
   unfoldable pub modeAt : ℕ → ℕ → Modes
-  modeAt at mask = modeFrom mask (tokenAt s at .tok) (tokenAt s at .next)
+  modeAt at mask = modeFrom decl mask (tokenAt s at .tok) (tokenAt s at .next)
 
   -- what follows a mode: a comma and more modes, or the closing brace
   abbrev pub moreFrom : (ℕ → Modes) → ℕ → ℕ → Tok → ℕ → Modes
@@ -80,6 +82,15 @@ module _ (s decl : List ℕ) where
       let modes = modesAt (length s + 1) inner 0 9 in
       onCloseBrace (tokenAt s inner .tok) (Set (tokenAt s inner .next) 0 8) modes)
       No
+
+-- what a reader of one mode answers of its token: it goes on behind the token, with a set of at most 16 modes
+abbrev pub ModeInside : ℕ → Modes → Type 0
+ModeInside next No = Unit {0}
+ModeInside next (Set e mask low) = (e ≡ next) × (mask < 65536)
+
+pub record ModeRead (decl : List ℕ) (mask : ℕ) (t : Token) (r : Modes) : Type 0 where
+  pub is : r ≡ modeFrom decl mask (t .tok) (t .next)
+  pub inside : ModeInside (t .next) r
 
 -- where a reader of modes goes on, with a set of at most 16 modes
 abbrev pub ModesInside : ℕ → ℕ → Modes → Type 0

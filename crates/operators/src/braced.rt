@@ -2,11 +2,12 @@
 ghost use mathlib.Core.Path.{_≡_};
 ghost use Prim.Native.Nat.{_≤_, _<_};
 ghost use lib.ListN.{length, getD};
-ghost use Rattle.operators.specs.Modes.{modeAt, ModesInside, ModesRead, bracesAt};
+ghost use Rattle.operators.specs.Modes.{ModeRead, ModesInside, ModesRead, bracesAt};
 use crate::sets::lower;
 use crate::sets::with_mode;
 use token::Tok;
-use token::next_token;
+use token::Token;
+use token::next_two;
 
 // What reading braces finds: the position after them, the set of modes and the lowest refusal; or no braces.
 pub enum Modes {
@@ -22,12 +23,11 @@ pub fn entry(decl: &[u8], k: u8) -> u8
     if i < decl.len() { decl[i] } else { 0 }
 }
 
-// One mode, added to a set.
-pub fn one_mode(s: &[u8], decl: &[u8], at: usize, mask: u32) -> Modes
-    requires { ⌜ (at ≤ length (now s)) × (mask < 65536) ⌝ }
-    ensures { λ r. ⌜ (r ≡ modeAt (now (s .entry)) (now (decl .entry)) at mask) × ModesInside (length (now (s .entry))) at r ⌝ }
+// The mode of a token, added to a set.
+pub fn one_mode(decl: &[u8], t: Token, mask: u32) -> Modes
+    requires { ⌜ mask < 65536 ⌝ }
+    ensures { λ r. ⌜ ModeRead (now (decl .entry)) mask t r ⌝ }
 {
-    let t = next_token(s, at);
     let k = t.tok;
     let after = t.next;
     match k {
@@ -56,17 +56,18 @@ pub fn modes_from(s: &[u8], decl: &[u8], at: usize, mask: u32, low: u8) -> Modes
     requires { ⌜ (at ≤ length (now s)) × (mask < 65536) ⌝ }
     ensures { λ r. ⌜ ModesRead (now (s .entry)) (now (decl .entry)) at mask low r ⌝ }
 {
+    let two = next_two(s, at);
     let Modes::Set {
-        next,
+        next: _,
         mask: more,
         low: found,
-    } = one_mode(s, decl, at, mask)
+    } = one_mode(decl, two.first, mask)
     else {
         return Modes::No;
     };
-    let t = next_token(s, next);
-    let k = t.tok;
-    let after = t.next;
+    let u = two.second;
+    let k = u.tok;
+    let after = u.next;
     match k {
         Tok::Comma => modes_from(s, decl, after, more, lower(low, found)),
         Tok::CloseBrace => Modes::Set {
@@ -83,13 +84,14 @@ pub fn braces(s: &[u8], decl: &[u8], at: usize) -> Modes
     requires { ⌜ at ≤ length (now s) ⌝ }
     ensures { λ r. ⌜ (r ≡ bracesAt (now (s .entry)) (now (decl .entry)) at) × ModesInside (length (now (s .entry))) at r ⌝ }
 {
-    let t = next_token(s, at);
+    let two = next_two(s, at);
+    let t = two.first;
     let k = t.tok;
     let after = t.next;
     let Tok::OpenBrace = k else {
         return Modes::No;
     };
-    let u = next_token(s, after);
+    let u = two.second;
     let c = u.tok;
     let end = u.next;
     if let Tok::CloseBrace = c {

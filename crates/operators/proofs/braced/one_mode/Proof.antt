@@ -5,9 +5,6 @@ use borrow.Author.Needs.{needs}
 use Rattle.operators.proofs.braced.one_mode.Statement.{statement}
 use Rattle.operators.proofs.braced.one_mode.Tie as tie
 
-next-token-requires : tie.Need-next-token-requires
-next-token-requires c κs = search needs
-
 enum-known-k : tie.Need-enum-known-k
 enum-known-k c = search needs
 
@@ -30,26 +27,21 @@ returns : tie.Need-returns
 returns c =
     let b1 = c .before in
     let b3 = b1 .before .before in
-    let b5 = b3 .before .before in
-    mode-forward _ _ _ _ _ (b5 .next-token .ensures) _ _ _ (b3 .k .given .1) (b1 .entry .ensures) (c .with-mode .ensures)
+    mode-forward _ _ _ _ _ _ (b3 .k .given .1) (b1 .entry .ensures) (c .with-mode .ensures)
 
 returns-2 : tie.Need-returns-2
 returns-2 c =
     let b1 = c .before in
     let b3 = b1 .before .before in
-    let b5 = b3 .before .before in
-    mode-backward _ _ _ _ _ (b5 .next-token .ensures) _ _ _ (b3 .k2 .given .1) (b1 .entry2 .ensures) (c .with-mode2 .ensures)
+    mode-backward _ _ _ _ _ _ (b3 .k2 .given .1) (b1 .entry2 .ensures) (c .with-mode2 .ensures)
 
 returns-3 : tie.Need-returns-3
-returns-3 c =
-    let b1 = c .before in
-    mode-none _ _ _ _ _ (b1 .next-token .ensures) (c .match .keys3)
+returns-3 c = mode-none _ _ _ (c .match .keys3)
 
 pub one-mode-spec : {M : Type 1} → statement M
 one-mode-spec =
     tie.close
     (tie.spec
-    next-token-requires
     enum-known-k
     entry-requires
     with-mode-requires
