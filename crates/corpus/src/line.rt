@@ -3,8 +3,8 @@
 use crate::run::finish;
 use crate::run::is_case;
 use crate::run::write_line;
-use crate::text::put;
-use crate::text::whole;
+use corpus_text::text::put;
+use corpus_text::text::whole;
 
 pub struct State {
     // The bytes of the line so far.

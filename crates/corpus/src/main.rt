@@ -3,13 +3,9 @@
 mod book;
 mod line;
 mod list;
-mod number;
-mod outcome;
 mod run;
 mod snapshot;
-mod store;
 mod table;
-mod text;
 mod verdict;
 
 use line::State;

@@ -1,13 +1,13 @@
 // The lines of a corpus: which operation each asks for, and its outcome.
 use crate::book::book;
 use crate::list::list;
-use crate::number::number_at;
 use crate::snapshot::snapshot;
 use crate::table::table;
-use crate::text::unescape;
 use crate::verdict::goal;
 use crate::verdict::program;
 use crate::verdict::verdict;
+use corpus_text::number::number_at;
+use corpus_text::text::unescape;
 
 // How many bytes the sheet in hand has then, and whether the line was not understood.
 pub struct Done {

@@ -1,12 +1,12 @@
 // The outcome of Snapshot: a byte of the row for each node.
-use crate::number::at_most;
-use crate::number::wide;
-use crate::outcome::write_end;
-use crate::outcome::write_operation;
-use crate::outcome::write_refused;
-use crate::store::bytes_kept;
-use crate::store::fill_bytes;
-use crate::text::unescape;
+use corpus_text::number::at_most;
+use corpus_text::number::wide;
+use corpus_text::outcome::write_end;
+use corpus_text::outcome::write_operation;
+use corpus_text::outcome::write_refused;
+use corpus_text::store::bytes_kept;
+use corpus_text::store::fill_bytes;
+use corpus_text::text::unescape;
 use lockgraph::SnapshotAnswer;
 
 fn write_bytes(row: &[u8]) {

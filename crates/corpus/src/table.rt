@@ -1,13 +1,13 @@
 // The outcome of Table: the part handed back, and the counts of surviving types.
-use crate::number::at_most;
-use crate::outcome::write_count;
-use crate::outcome::write_end;
-use crate::outcome::write_operation;
-use crate::outcome::write_refused;
-use crate::outcome::write_words;
-use crate::store::fill_words;
-use crate::store::same_words;
-use crate::store::words_kept;
+use corpus_text::number::at_most;
+use corpus_text::outcome::write_count;
+use corpus_text::outcome::write_end;
+use corpus_text::outcome::write_operation;
+use corpus_text::outcome::write_refused;
+use corpus_text::outcome::write_words;
+use corpus_text::store::fill_words;
+use corpus_text::store::same_words;
+use corpus_text::store::words_kept;
 use lockgraph::TableAnswer;
 
 // The first of some words, or another one where there is none.

@@ -1,6 +1,6 @@
 // The outcomes of the operations that take a sheet alone: Verdict, the goal's text, and what the program prints.
-use crate::outcome::write_refused;
-use crate::text::write_escaped;
+use corpus_text::outcome::write_refused;
+use corpus_text::text::write_escaped;
 use lockgraph::VerdictAnswer;
 
 pub fn verdict(sheet: &[u8]) {

@@ -1,27 +1,27 @@
--- `corpus::store::bytes_kept` meets its contract. Assumes nothing.
+-- `corpus::number::number_of` meets its contract. Assumes nothing.
 use borrow.Author.Needs.{needs}
 use lib.ListN.{length}
 use Prim.Native.Nat.{_≤_, _-_}
-use Rattle.corpus.proofs.store.bytes_kept.Statement.{statement}
-use Rattle.corpus.proofs.store.bytes_kept.Tie as tie
+use Rattle.corpus_text.proofs.number.number_of.Statement.{statement}
+use Rattle.corpus_text.proofs.number.number_of.Tie as tie
 
 abbrev Inv-loop : tie.InvT-loop
-Inv-loop store from byte₀ i₀ byte i = i ≤ length store
+Inv-loop text sofar₀ i₀ sofar i = i ≤ length text
 
 abbrev μ-loop : tie.MeasureT-loop
-μ-loop store from byte₀ i₀ byte i = length store - i
+μ-loop text sofar₀ i₀ sofar i = length text - i
 
 loop-holds : tie.Need-loop-holds Inv-loop μ-loop
 loop-holds c = search needs
 
-shared-slice-read-if1 : tie.Need-shared-slice-read-if1 Inv-loop μ-loop
-shared-slice-read-if1 c = search needs
+shared-slice-read-with-digit : tie.Need-shared-slice-read-with-digit Inv-loop μ-loop
+shared-slice-read-with-digit c = search needs
+
+with-digit-requires : tie.Need-with-digit-requires Inv-loop μ-loop
+with-digit-requires c κs = search needs
 
 returns : tie.Need-returns Inv-loop μ-loop
 returns c = search needs
-
-wrapping-add-u8-requires : tie.Need-wrapping-add-u8-requires Inv-loop μ-loop
-wrapping-add-u8-requires c κs = search needs
 
 add-i : tie.Need-add-i Inv-loop μ-loop
 add-i c = search needs
@@ -35,16 +35,16 @@ loop-again c = search needs
 returns-2 : tie.Need-returns-2 Inv-loop μ-loop
 returns-2 c = search needs
 
-pub bytes-kept-spec : {M : Type 1} → statement M
-bytes-kept-spec =
+pub number-of-spec : {M : Type 1} → statement M
+number-of-spec =
     tie.close
     (tie.spec
     Inv-loop
     μ-loop
     loop-holds
-    shared-slice-read-if1
+    shared-slice-read-with-digit
+    with-digit-requires
     returns
-    wrapping-add-u8-requires
     add-i
     loop-less
     loop-again

@@ -2,8 +2,8 @@
 use borrow.Author.Needs.{needs}
 use lib.ListN.{length}
 use Prim.Native.Nat.{_≤_, _-_}
-use Rattle.corpus.proofs.text.write_escaped.Statement.{statement}
-use Rattle.corpus.proofs.text.write_escaped.Tie as tie
+use Rattle.corpus_text.proofs.text.write_escaped.Statement.{statement}
+use Rattle.corpus_text.proofs.text.write_escaped.Tie as tie
 
 abbrev Inv-loop : tie.InvT-loop
 Inv-loop text i₀ i = i ≤ length text

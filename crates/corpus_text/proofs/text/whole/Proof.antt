@@ -3,8 +3,8 @@ use borrow.Author.Needs.{needs}
 use lib.ListN.{length}
 use Prim.Native.Nat.{_-_}
 use mathlib.Core.Path.{_≡_}
-use Rattle.corpus.proofs.text.whole.Statement.{statement}
-use Rattle.corpus.proofs.text.whole.Tie as tie
+use Rattle.corpus_text.proofs.text.whole.Statement.{statement}
+use Rattle.corpus_text.proofs.text.whole.Tie as tie
 
 abbrev Inv-loop : tie.InvT-loop
 Inv-loop text n i₀ i = n ≡ length text

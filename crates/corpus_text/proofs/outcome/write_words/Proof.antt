@@ -2,8 +2,8 @@
 use borrow.Author.Needs.{needs}
 use lib.ListN.{length}
 use Prim.Native.Nat.{_≤_, _-_}
-use Rattle.corpus.proofs.outcome.write_words.Statement.{statement}
-use Rattle.corpus.proofs.outcome.write_words.Tie as tie
+use Rattle.corpus_text.proofs.outcome.write_words.Statement.{statement}
+use Rattle.corpus_text.proofs.outcome.write_words.Tie as tie
 
 abbrev Inv-loop : tie.InvT-loop
 Inv-loop words i₀ t3 i = i ≤ length words

@@ -2,8 +2,8 @@
 use borrow.Author.Needs.{needs}
 use lib.ListN.{length}
 use Prim.Native.Nat.{_≤_, _-_}
-use Rattle.corpus.proofs.store.words_kept.Statement.{statement}
-use Rattle.corpus.proofs.store.words_kept.Tie as tie
+use Rattle.corpus_text.proofs.store.words_kept.Statement.{statement}
+use Rattle.corpus_text.proofs.store.words_kept.Tie as tie
 
 abbrev Inv-loop : tie.InvT-loop
 Inv-loop store from word₀ i₀ word i = i ≤ length store

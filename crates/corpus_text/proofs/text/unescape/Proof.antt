@@ -3,8 +3,8 @@ use borrow.Author.Needs.{needs}
 use lib.ListN.{length}
 use Prim.Native.Nat.{_-_}
 use mathlib.Core.Path.{_≡_}
-use Rattle.corpus.proofs.text.unescape.Statement.{statement}
-use Rattle.corpus.proofs.text.unescape.Tie as tie
+use Rattle.corpus_text.proofs.text.unescape.Statement.{statement}
+use Rattle.corpus_text.proofs.text.unescape.Tie as tie
 
 abbrev Inv-loop : tie.InvT-loop
 Inv-loop text store₀ i₀ n₀ store i n = length store ≡ length store₀

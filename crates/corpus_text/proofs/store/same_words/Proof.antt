@@ -1,8 +1,8 @@
 -- `corpus::store::same_words` meets its contract. Assumes nothing.
 use borrow.Author.Needs.{needs}
 use Prim.Native.Nat.{_≤_, _-_}
-use Rattle.corpus.proofs.store.same_words.Statement.{statement}
-use Rattle.corpus.proofs.store.same_words.Tie as tie
+use Rattle.corpus_text.proofs.store.same_words.Statement.{statement}
+use Rattle.corpus_text.proofs.store.same_words.Tie as tie
 
 abbrev Inv-loop : tie.InvT-loop
 Inv-loop first second n i₀ i = i ≤ n

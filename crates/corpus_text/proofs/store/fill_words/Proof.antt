@@ -1,16 +1,16 @@
--- `corpus::store::fill_numbers` meets its contract. Assumes nothing.
+-- `corpus::store::fill_words` meets its contract. Assumes nothing.
 use borrow.Author.Needs.{needs}
 use lib.ListN.{length}
 use Prim.Native.Nat.{_-_}
 use mathlib.Core.Path.{_≡_}
-use Rattle.corpus.proofs.store.fill_numbers.Statement.{statement}
-use Rattle.corpus.proofs.store.fill_numbers.Tie as tie
+use Rattle.corpus_text.proofs.store.fill_words.Statement.{statement}
+use Rattle.corpus_text.proofs.store.fill_words.Tie as tie
 
 abbrev Inv-loop : tie.InvT-loop
-Inv-loop store₀ number₀ i₀ store number i = length store ≡ length store₀
+Inv-loop store₀ word₀ i₀ store word i = length store ≡ length store₀
 
 abbrev μ-loop : tie.MeasureT-loop
-μ-loop store₀ number₀ i₀ store number i = length store₀ - i
+μ-loop store₀ word₀ i₀ store word i = length store₀ - i
 
 loop-holds : tie.Need-loop-holds Inv-loop μ-loop
 loop-holds c = search needs
@@ -21,8 +21,8 @@ mul-store c = search needs
 slice-write-store : tie.Need-slice-write-store Inv-loop μ-loop
 slice-write-store c = search needs
 
-next-number-requires : tie.Need-next-number-requires Inv-loop μ-loop
-next-number-requires c κs = search needs
+wrapping-add-u64-requires : tie.Need-wrapping-add-u64-requires Inv-loop μ-loop
+wrapping-add-u64-requires c κs = search needs
 
 add-i : tie.Need-add-i Inv-loop μ-loop
 add-i c = search needs
@@ -39,8 +39,8 @@ same-length c = search needs
 returns : tie.Need-returns Inv-loop μ-loop
 returns c = search needs
 
-pub fill-numbers-spec : {M : Type 1} → statement M
-fill-numbers-spec =
+pub fill-words-spec : {M : Type 1} → statement M
+fill-words-spec =
     tie.close
     (tie.spec
     Inv-loop
@@ -48,7 +48,7 @@ fill-numbers-spec =
     loop-holds
     mul-store
     slice-write-store
-    next-number-requires
+    wrapping-add-u64-requires
     add-i
     loop-less
     loop-again
