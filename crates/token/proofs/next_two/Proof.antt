@@ -2,7 +2,6 @@
 -- Assumes nothing.
 use borrow.Author.Needs.{needs}
 use Rattle.token.proofs.Tokens.{token-is}
-use Rattle.token.specs.Token.{TokenIs}
 use Rattle.token.proofs.next_two.Statement.{statement}
 use Rattle.token.proofs.next_two.Tie as tie
 
