@@ -1,0 +1,4 @@
+pub mod DecimalLaws
+pub mod Examples
+pub mod LineLaws
+pub mod PutLaws
