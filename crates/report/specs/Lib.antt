@@ -1,1 +1,4 @@
+pub mod Handed
 pub mod Later
+pub mod Pages
+pub mod Text

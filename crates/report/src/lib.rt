@@ -1,73 +1,37 @@
-// What the program prints of a sheet: its refusal; or a line for each naming, then the verdict. Assumes nothing.
+// What the program prints of a sheet: its refusal; or a line for each naming, then the verdict. No contract can speak of output, so the only function that writes asks for
+// the right bytes, and a count of the lines that it was handed goes with each call, from 0 in `report` up to all that the text has. Assumes nothing.
 ghost use mathlib.Core.Path.{_≡_};
+ghost use mathlib.Core.List.{_++_};
 ghost use Prim.Native.Nat.{_≤_, _<_};
-ghost use lib.ListN.{length};
+ghost use lib.ListN.{length, take};
+ghost use Rattle.reader.specs.Reader.{refusalOf};
 ghost use Rattle.tableau.specs.Families.{Ready};
-ghost use Rattle.judge.specs.Judged.{goalsAt, Places, Judged};
+ghost use Rattle.judge.specs.Judged.{Places};
 ghost use Rattle.frame.specs.SetUp.{SetUp};
-ghost use Rattle.report.specs.Later.{laterOf};
+ghost use Rattle.report.specs.Pages.{Prints};
+ghost use Rattle.report.specs.Text.{linesOf, upTo};
 
-mod text;
+mod pages;
 
 use frame::Setup;
 use judge::Verdict;
-use tableau::goal::Found;
-use tableau::table::Counts;
-use text::flush;
-use text::put;
-use text::put_number;
+use pages::fill_page;
 
-// A line of the table: a naming's number, its types at the start, those left, and the rounds.
-fn put_row(out: &mut [u8], n: usize, r: u64, c: Counts, newline: &[u8]) -> usize
-    requires { ⌜ n ≤ length (now out) ⌝ }
-    ensures { λ k. ⌜ k ≤ length (now (out .exit)) ⌝ }
+// Hands the next lines of the sheet's text to the output: the first `done` lines, which it has, and these bytes are the first `next`. The sheet and the newline are there for
+// the contract alone. If the output takes no more, the bytes are lost: there is nowhere else to report that.
+fn write_lines(sheet: &[u8], newline: &[u8], done: &mut u64, next: u64, bytes: &[u8])
+    requires { ⌜ upTo (now done) (linesOf (now sheet) (now newline)) ++ now bytes ≡ upTo next (linesOf (now sheet) (now newline)) ⌝ }
+    ensures { λ _. ⌜ now (done .exit) ≡ next ⌝ }
 {
-    let n = put_number(out, n, r);
-    let n = put(out, n, b" ");
-    let n = put_number(out, n, c.start as u64);
-    let n = put(out, n, b" ");
-    let n = put_number(out, n, c.left as u64);
-    let n = put(out, n, b" ");
-    let n = put_number(out, n, c.rounds as u64);
-    put(out, n, newline)
+    io::write_all(1, bytes);
+    *done = next;
 }
 
-// The last two lines.
-fn put_verdict(out: &mut [u8], n: usize, v: Verdict, newline: &[u8]) -> usize
-    requires { ⌜ n ≤ length (now out) ⌝ }
-    ensures { λ k. ⌜ k ≤ length (now (out .exit)) ⌝ }
-{
-    let n = put(out, n, b"verdict naming type");
-    let n = put(out, n, newline);
-    if let Verdict::Open { naming, least } = v {
-        let n = put(out, n, b"open ");
-        let n = put_number(out, n, naming);
-        let n = put(out, n, b" ");
-        let n = put_number(out, n, least as u64);
-        return put(out, n, newline);
-    }
-    let n = put(out, n, b"unsatisfiable - -");
-    put(out, n, newline)
-}
-
-// The verdict on namings 0 to r, from that on those before r and what was found for r.
-fn later(v: Verdict, r: u64, found: Found) -> Verdict
-    ensures { λ a. ⌜ a ≡ laterOf v r found ⌝ }
-{
-    if let Verdict::Open { naming, least } = v {
-        return Verdict::Open { naming, least };
-    }
-    if let Found::At(t) = found {
-        return Verdict::Open {
-            naming: r,
-            least: t,
-        };
-    }
-    Verdict::Unsatisfiable
-}
-
-// Prints a line for each naming and the verdict, behind the `used` bytes that the buffer holds. The verdict that it prints is the one that it gives.
-fn rows(
+// Writes the lines of a sheet that is not refused, page after page. Line 0 is the heading, so naming r's line is line r + 1.
+fn write_pages(
+    sheet: &[u8],
+    newline: &[u8],
+    done: &mut u64,
     ms: &[u64],
     ln: &[u8],
     w: usize,
@@ -79,22 +43,19 @@ fn rows(
     goal: usize,
     namings: u64,
     out: &mut [u8],
-    used: usize,
-    newline: &[u8],
-) -> Verdict
+)
+    requires { ⌜ now done ≡ 0 ⌝ }
+    requires { ⌜ Prints (now sheet) (now newline) (now ms) (now ln) w (now base) (now names) (now others) goal namings ⌝ }
     requires { ⌜ Ready (now ms) (now ln) w (now tw) (now lw) ⌝ }
     requires { ⌜ Places (now names) (now others) × ((w ≤ 4) × ((w ≤ length (now base)) × (goal < length (now ms)))) ⌝ }
-    requires { ⌜ used ≤ length (now out) ⌝ }
-    ensures { λ r. ⌜ Judged (goalsAt (now (ms .entry)) (now (ln .entry)) w (now (base .entry)) (now (names .entry)) (now (others .entry)) goal) namings r ⌝ }
+    requires { ⌜ (512 ≤ length (now out)) × (length (now newline) ≤ 16) ⌝ }
+    ensures { λ _. ⌜ now (done .exit) ≡ length (linesOf (now (sheet .entry)) (now (newline .entry))) ⌝ }
 {
-    let mut first = [0u64; 4];
-    let mut second = [0u64; 4];
-    let mut v = Verdict::Unsatisfiable;
-    let mut k = used;
+    let mut used = lines::put_heading(out, 0, newline);
     let mut n = naming::first(namings);
-    while n.number < n.count {
-        let r = n.number;
-        let c = judge::fill_table(
+    let mut v = Verdict::Unsatisfiable;
+    loop {
+        let p = fill_page(
             ms,
             ln,
             w,
@@ -103,33 +64,44 @@ fn rows(
             names,
             others,
             base,
-            r,
-            &mut first,
-            &mut second,
+            goal,
+            n,
+            v,
+            out,
+            used,
+            newline,
         );
-        k = put_row(out, k, r, c, newline);
-        let found = tableau::goal::goal_type(ms, ln, w, tw, goal, &first);
-        v = later(v, r, found);
-        n = naming::advanced(n);
+        n = p.naming;
+        v = p.verdict;
+        let next = n.number;
+        let k = p.used;
+        if namings <= next {
+            let m = lines::put_verdict(out, k, v, newline);
+            write_lines(sheet, newline, done, namings + 3, &out[..m]);
+            return;
+        }
+        write_lines(sheet, newline, done, next + 1, &out[..k]);
+        used = 0;
     }
-    k = put_verdict(out, k, v, newline);
-    flush(out, k);
-    v
 }
 
-// The only line for a refused sheet.
-fn refused(k: u8, newline: &[u8]) {
-    let mut out = [0u8; 64];
-    let n = put(&mut out, 0, b"refused ");
-    let n = put_number(&mut out, n, k as u64);
-    let n = put(&mut out, n, newline);
-    flush(&out, n);
+// Writes the only line of a refused sheet.
+fn refused(sheet: &[u8], k: u8, newline: &[u8], done: &mut u64)
+    requires { ⌜ now done ≡ 0 ⌝ }
+    requires { ⌜ (k ≡ refusalOf (now sheet)) × ((k ≡ 0 → ⊥) × (length (now newline) ≤ 16)) ⌝ }
+    ensures { λ _. ⌜ now (done .exit) ≡ length (linesOf (now (sheet .entry)) (now (newline .entry))) ⌝ }
+{
+    let mut out = [0u8; 128];
+    let n = lines::put_refused(&mut out, 0, k, newline);
+    write_lines(sheet, newline, done, 1, &out[..n]);
 }
 
-// The lines for a sheet that is not refused, with the link words in lw. What depends on the sheet alone is computed once, before the first naming.
-fn report_in(sheet: &[u8], u: Setup, newline: &[u8], lw: &mut [u64])
+// Writes the lines of a sheet that is not refused, with the link words in lw. What depends on the sheet alone is computed once, before the first naming.
+fn report_in(sheet: &[u8], u: Setup, newline: &[u8], done: &mut u64, lw: &mut [u64])
+    requires { ⌜ now done ≡ 0 ⌝ }
     requires { ⌜ SetUp (now sheet) u ⌝ }
-    requires { ⌜ (u .refusal ≡ 0) × (u .links ≤ length (now lw)) ⌝ }
+    requires { ⌜ (u .refusal ≡ 0) × ((u .links ≤ length (now lw)) × (length (now newline) ≤ 16)) ⌝ }
+    ensures { λ _. ⌜ now (done .exit) ≡ length (linesOf (now (sheet .entry)) (now (newline .entry))) ⌝ }
 {
     let members = u.members;
     let lean = u.lean;
@@ -148,9 +120,10 @@ fn report_in(sheet: &[u8], u: Setup, newline: &[u8], lw: &mut [u64])
         &mut base,
     );
     let mut out = [0u8; 8192];
-    let n = put(&mut out, 0, b"naming start left rounds");
-    let n = put(&mut out, n, newline);
-    rows(
+    write_pages(
+        sheet,
+        newline,
+        done,
         &members[..u.count],
         &lean[..u.width],
         u.words,
@@ -162,35 +135,58 @@ fn report_in(sheet: &[u8], u: Setup, newline: &[u8], lw: &mut [u64])
         u.goal,
         u.namings,
         &mut out,
-        n,
-        newline,
     );
 }
 
-// What the program prints of a sheet, each line ended by `newline`. The store of link words is lent by their number.
-pub fn report(sheet: &[u8], newline: &[u8]) {
-    let u = frame::set_up(sheet);
-    let k = u.refusal;
-    if k != 0 {
-        refused(k, newline);
-        return;
-    }
+// The same, with a store of link words that fits.
+fn fitted_report(sheet: &[u8], u: Setup, newline: &[u8], done: &mut u64)
+    requires { ⌜ now done ≡ 0 ⌝ }
+    requires { ⌜ SetUp (now sheet) u ⌝ }
+    requires { ⌜ (u .refusal ≡ 0) × (length (now newline) ≤ 16) ⌝ }
+    ensures { λ _. ⌜ now (done .exit) ≡ length (linesOf (now (sheet .entry)) (now (newline .entry))) ⌝ }
+{
     let n = u.links;
     if n <= 528 {
         let mut lw = [0u64; 528];
-        report_in(sheet, u, newline, &mut lw);
+        report_in(sheet, u, newline, done, &mut lw);
         return;
     }
     if n <= 2064 {
         let mut lw = [0u64; 2064];
-        report_in(sheet, u, newline, &mut lw);
+        report_in(sheet, u, newline, done, &mut lw);
         return;
     }
     if n <= 4112 {
         let mut lw = [0u64; 4112];
-        report_in(sheet, u, newline, &mut lw);
+        report_in(sheet, u, newline, done, &mut lw);
         return;
     }
     let mut lw = [0u64; 16400];
-    report_in(sheet, u, newline, &mut lw);
+    report_in(sheet, u, newline, done, &mut lw);
+}
+
+// What ends a line: at most 16 bytes.
+fn ending(newline: &[u8]) -> &[u8]
+    ensures { λ r. ⌜ (now r ≡ take 16 (now (newline .entry))) × (length (now r) ≤ 16) ⌝ }
+{
+    if newline.len() <= 16 {
+        return newline;
+    }
+    &newline[..16]
+}
+
+// Writes what the program prints of a sheet, each line ended by `newline`, or by the first 16 bytes of a longer one, and gives how many lines that is: all that the text has.
+pub fn report(sheet: &[u8], newline: &[u8]) -> u64
+    ensures { λ r. ⌜ r ≡ length (linesOf (now (sheet .entry)) (take 16 (now (newline .entry)))) ⌝ }
+{
+    let mut done = 0u64;
+    let end = ending(newline);
+    let u = frame::set_up(sheet);
+    let k = u.refusal;
+    if k != 0 {
+        refused(sheet, k, end, &mut done);
+        return done;
+    }
+    fitted_report(sheet, u, end, &mut done);
+    done
 }

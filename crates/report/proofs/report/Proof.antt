@@ -1,9 +1,14 @@
--- `report` meets its contract, with each of the stores. Assumes nothing.
-use Rattle.frame.proofs.Stores.{links-most}
-use Rattle.report.proofs.ReportLaws.{accepted}
+-- `report` meets its contract. Assumes nothing.
+use mathlib.Core.Path.{ap, _∙_}
+use lib.ListN.{length}
+use denote.Ref.{now}
+use Rattle.report.specs.Text.{linesOf}
 use borrow.Author.Needs.{needs}
 use Rattle.report.proofs.report.Statement.{statement}
 use Rattle.report.proofs.report.Tie as tie
+
+ending-requires : tie.Need-ending-requires
+ending-requires c κs = search needs
 
 set-up-requires : tie.Need-set-up-requires
 set-up-requires c κs = search needs
@@ -12,63 +17,27 @@ refused-requires : tie.Need-refused-requires
 refused-requires c κs = search needs
 
 returns : tie.Need-returns
-returns c = search needs
+returns c =
+    let b4 = c .before .before .before .before in
+    let b7 = b4 .before .before .before in
+    c .refused .ensures ∙ ap (λ n. length (linesOf (now (b7 .args .sheet)) n)) (b4 .ending .ensures .0)
 
-slice-aggregate-report-in : tie.Need-slice-aggregate-report-in
-slice-aggregate-report-in c = search needs
-
-report-in-requires : tie.Need-report-in-requires
-report-in-requires c κs = search needs
+fitted-report-requires : tie.Need-fitted-report-requires
+fitted-report-requires c κs = search needs
 
 returns-2 : tie.Need-returns-2
-returns-2 c = search needs
-
-slice-aggregate-report-in-2 : tie.Need-slice-aggregate-report-in-2
-slice-aggregate-report-in-2 c = search needs
-
-report-in-requires-2 : tie.Need-report-in-requires-2
-report-in-requires-2 c κs = search needs
-
-returns-3 : tie.Need-returns-3
-returns-3 c = search needs
-
-slice-aggregate-report-in-3 : tie.Need-slice-aggregate-report-in-3
-slice-aggregate-report-in-3 c = search needs
-
-report-in-requires-3 : tie.Need-report-in-requires-3
-report-in-requires-3 c κs = search needs
-
-returns-4 : tie.Need-returns-4
-returns-4 c = search needs
-
-slice-aggregate-report-in-4 : tie.Need-slice-aggregate-report-in-4
-slice-aggregate-report-in-4 c = search needs
-
-report-in-requires-4 : tie.Need-report-in-requires-4
-report-in-requires-4 c κs =
+returns-2 c =
     let b4 = c .before .before .before .before in
-    let b5 = b4 .before in
-    (b5 .set-up .ensures, (b4 .if1 .left, links-most (accepted (b5 .set-up .ensures) (b4 .if1 .left))))
-
-returns-5 : tie.Need-returns-5
-returns-5 c = search needs
+    let b7 = b4 .before .before .before in
+    c .fitted-report .ensures ∙ ap (λ n. length (linesOf (now (b7 .args .sheet)) n)) (b4 .ending .ensures .0)
 
 pub report-spec : {M : Type 1} → statement M
 report-spec =
     tie.close
     (tie.spec
+    ending-requires
     set-up-requires
     refused-requires
     returns
-    slice-aggregate-report-in
-    report-in-requires
-    returns-2
-    slice-aggregate-report-in-2
-    report-in-requires-2
-    returns-3
-    slice-aggregate-report-in-3
-    report-in-requires-3
-    returns-4
-    slice-aggregate-report-in-4
-    report-in-requires-4
-    returns-5)
+    fitted-report-requires
+    returns-2)

@@ -1,8 +1,8 @@
 -- `later` meets its contract. Assumes nothing.
-use Rattle.report.proofs.ReportLaws.{later-open, later-found, later-none}
+use Rattle.report.proofs.PageLaws.{later-open, later-found, later-none}
 use borrow.Author.Needs.{needs}
-use Rattle.report.proofs.later.Statement.{statement}
-use Rattle.report.proofs.later.Tie as tie
+use Rattle.report.proofs.pages.later.Statement.{statement}
+use Rattle.report.proofs.pages.later.Tie as tie
 
 enum-known-v : tie.Need-enum-known-v
 enum-known-v c = search needs

@@ -1,0 +1,41 @@
+-- What the program prints of a sheet: its lines, and the text that they make. Assumes nothing.
+use mathlib.Core.List.{List, [], _∷_, _++_, map}
+use Prim.Native.Nat.{ℕ, zero, suc}
+use lib.ListN.{length, take}
+use Rattle.ctl.specs.Lists.{below}
+use Rattle.ctl.specs.Positive.{positive}
+use Rattle.ctl.specs.Tableau.{namings, startTypes}
+use Rattle.ctl.specs.Verdict.{Verdict, roundsOf, survivingTypes, verdict}
+use Rattle.sheet.specs.Reading.{formulas, goalOf}
+use Rattle.reader.specs.Reader.{refusalOf}
+use Rattle.prepare.specs.Prepared.{tableauIn}
+use Rattle.lines.specs.Lines.{headingLine, namingLine, refusedLine, verdictHeading, verdictLine}
+
+-- the line of naming r: how many types there are at start, how many survive (document 01's left), and the rounds
+unfoldable pub namingOf : List ℕ → List ℕ → ℕ → List ℕ
+namingOf s newline r = namingLine r (length (startTypes (tableauIn s) r)) (length (survivingTypes (tableauIn s) r)) (roundsOf (tableauIn s) r) newline
+
+-- the verdict on the sheet's goal
+abbrev pub goalVerdict : List ℕ → Verdict
+goalVerdict s = verdict (tableauIn s) (positive (goalOf (formulas s)))
+
+-- the lines, where the refusal is k: that alone; or the heading, a line for each naming, and the verdict under its heading
+abbrev pub linesBy : List ℕ → List ℕ → ℕ → List (List ℕ)
+linesBy s newline zero = headingLine newline ∷ (map (namingOf s newline) (below (namings (tableauIn s))) ++ (verdictHeading newline ∷ verdictLine (goalVerdict s) newline ∷ []))
+linesBy s newline (suc k) = refusedLine (suc k) newline ∷ []
+
+unfoldable pub linesOf : List ℕ → List ℕ → List (List ℕ)
+linesOf s newline = linesBy s newline (refusalOf s)
+
+-- lines, one after the other
+abbrev pub joined : List (List ℕ) → List ℕ
+joined [] = []
+joined (l ∷ ls) = l ++ joined ls
+
+unfoldable pub textOf : List ℕ → List ℕ → List ℕ
+unfolding linesOf
+textOf s newline = joined (linesOf s newline)
+
+-- the text of the first n lines
+abbrev pub upTo : ℕ → List (List ℕ) → List ℕ
+upTo n ls = joined (take n ls)
