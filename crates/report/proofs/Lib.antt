@@ -1,3 +1,4 @@
+pub mod Drawn
 pub mod HandedLaws
 pub mod PageLaws
 pub mod ReportLaws
