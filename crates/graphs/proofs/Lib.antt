@@ -1,1 +1,2 @@
 pub mod Graphs
+pub mod Printed

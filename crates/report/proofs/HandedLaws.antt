@@ -10,7 +10,8 @@ use Rattle.prepare.specs.Prepared.{tableauIn}
 use Rattle.lines.specs.Lines.{headingLine, refusedLine, verdictHeading, verdictLine}
 use Rattle.report.specs.Handed.{Handed, none, more}
 use Rattle.report.specs.Pages.{rows}
-use Rattle.report.specs.Text.{goalVerdict, joined, linesOf, namingOf, textOf, upTo}
+use Rattle.fitted.specs.Accepted.{verdictIn}
+use Rattle.report.specs.Text.{joined, linesOf, namingOf, textOf, upTo}
 use Rattle.report.proofs.TextLaws.{accepted-count, joined-append, refused-count, refused-text, upto-length, upto-naming, upto-verdict}
 
 handed-lines : {lines : List (List ℕ)} {n : ℕ} {writes : List (List ℕ)} → Handed lines n writes → joined writes ≡ upTo n lines
@@ -27,7 +28,7 @@ module _ (s newline : List ℕ) where
 
   -- the heading, the lines of all namings in their order, and the verdict under its heading
   pub text-accepted : refusalOf s ≡ 0
-      → textOf s newline ≡ headingLine newline ++ rows (namingOf s newline) 0 (namings (tableauIn s)) ++ (verdictHeading newline ++ verdictLine (goalVerdict s) newline)
+      → textOf s newline ≡ headingLine newline ++ rows (namingOf s newline) 0 (namings (tableauIn s)) ++ (verdictHeading newline ++ verdictLine (verdictIn s) newline)
   text-accepted z =
       sym (upto-length s newline) ∙ ap (λ i. upTo i (linesOf s newline)) (accepted-count s newline z) ∙ upto-verdict s newline z
-      ∙ ap (λ t. t ++ (verdictHeading newline ++ verdictLine (goalVerdict s) newline)) (upto-naming s newline z (namings (tableauIn s)) (omega arith))
+      ∙ ap (λ t. t ++ (verdictHeading newline ++ verdictLine (verdictIn s) newline)) (upto-naming s newline z (namings (tableauIn s)) (omega arith))

@@ -1,4 +1,3 @@
-pub mod Drawn
 pub mod HandedLaws
 pub mod PageLaws
 pub mod ReportLaws

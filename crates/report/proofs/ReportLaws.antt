@@ -12,6 +12,7 @@ use Rattle.judge.specs.Judged.{Places}
 use Rattle.frame.specs.SetUp.{Accepts, SetUp, globalsIn, leanIn, membersIn, namesIn, othersIn}
 use Rattle.frame.specs.declared.Setup.{Setup}
 use Rattle.frame.proofs.VerdictLaws.{framed-verdict}
+use Rattle.fitted.specs.Accepted.{verdictIn}
 use Rattle.report.specs.Pages.{Prints, rowAt}
 use Rattle.report.specs.Text.{namingOf}
 
@@ -35,6 +36,7 @@ module _ {s : List ℕ} {u : Setup} (x : SetUp s u) (e : u .refusal ≡ 0) where
         cc
 
     pub prints : Prints s newline (membersIn u) (leanIn u) (u .words) base (namesIn u) (othersIn u) (u .goal) (u .namings)
+    unfolding verdictIn
     prints =
         let a = accepted .framed in
         record {

@@ -12,7 +12,8 @@ use Rattle.reader.specs.Reader.{refusalOf}
 use Rattle.prepare.specs.Prepared.{tableauIn}
 use Rattle.lines.specs.Lines.{headingLine, refusedLine, verdictHeading, verdictLine}
 use Rattle.report.specs.Pages.{rows}
-use Rattle.report.specs.Text.{goalVerdict, joined, linesBy, linesOf, namingOf, textOf, upTo}
+use Rattle.fitted.specs.Accepted.{verdictIn}
+use Rattle.report.specs.Text.{joined, linesBy, linesOf, namingOf, textOf, upTo}
 
 pub joined-append : (a b : List (List ℕ)) → joined (a ++ b) ≡ joined a ++ joined b
 joined-append [] b = refl
@@ -59,7 +60,7 @@ module _ (s newline : List ℕ) (z : refusalOf s ≡ 0) where
   N = namings (tableauIn s)
 
   abbrev last : List (List ℕ)
-  last = verdictHeading newline ∷ verdictLine (goalVerdict s) newline ∷ []
+  last = verdictHeading newline ∷ verdictLine (verdictIn s) newline ∷ []
 
   accepted-lines : linesOf s newline ≡ headingLine newline ∷ (map (namingOf s newline) (below N) ++ last)
   unfolding linesOf
@@ -78,11 +79,11 @@ module _ (s newline : List ℕ) (z : refusalOf s ≡ 0) where
       ∙ ap (λ l. headingLine newline ++ l) (rows-first (namingOf s newline) m)
 
   -- and behind the lines of all namings, the verdict
-  pub upto-verdict : upTo (N + 3) (linesOf s newline) ≡ upTo (N + 1) (linesOf s newline) ++ (verdictHeading newline ++ verdictLine (goalVerdict s) newline)
+  pub upto-verdict : upTo (N + 3) (linesOf s newline) ≡ upTo (N + 1) (linesOf s newline) ++ (verdictHeading newline ++ verdictLine (verdictIn s) newline)
   upto-verdict =
       ap (λ k. upTo k (linesOf s newline)) (sym accepted-count) ∙ ap joined (take-length (linesOf s newline) ∙ accepted-lines)
       ∙ ap (λ t. headingLine newline ++ t)
       (joined-append (map (namingOf s newline) (below N)) last
-      ∙ ap₂ _++_ (rows-first (namingOf s newline) N) (ap (λ t. verdictHeading newline ++ t) (append-nil (verdictLine (goalVerdict s) newline))))
-      ∙ sym (append-assoc (headingLine newline) (rows (namingOf s newline) 0 N) (verdictHeading newline ++ verdictLine (goalVerdict s) newline))
-      ∙ ap (λ t. t ++ (verdictHeading newline ++ verdictLine (goalVerdict s) newline)) (sym (upto-naming N (omega arith)))
+      ∙ ap₂ _++_ (rows-first (namingOf s newline) N) (ap (λ t. verdictHeading newline ++ t) (append-nil (verdictLine (verdictIn s) newline))))
+      ∙ sym (append-assoc (headingLine newline) (rows (namingOf s newline) 0 N) (verdictHeading newline ++ verdictLine (verdictIn s) newline))
+      ∙ ap (λ t. t ++ (verdictHeading newline ++ verdictLine (verdictIn s) newline)) (sym (upto-naming N (omega arith)))

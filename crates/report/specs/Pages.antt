@@ -14,7 +14,8 @@ use Rattle.judge.specs.declared.Verdict.{Verdict}
 use Rattle.judge.specs.Judged.{Judged, goalsAt, verdictOf}
 use Rattle.lines.specs.Lines.{namingLine}
 use Rattle.report.specs.declared.pages.Page.{Page}
-use Rattle.report.specs.Text.{goalVerdict, joined, namingOf}
+use Rattle.fitted.specs.Accepted.{verdictIn}
+use Rattle.report.specs.Text.{joined, namingOf}
 
 -- the line of naming r, from what its table is filled with
 unfoldable pub rowAt : List ℕ → List ℕ → ℕ → List ℕ → List ℕ → List ℕ → List ℕ → ℕ → List ℕ
@@ -41,4 +42,4 @@ pub record Prints (s newline ms ln : List ℕ) (w : ℕ) (base names others : Li
   pub line-is : (r : ℕ) → rowAt ms ln w base names others newline r ≡ namingOf s newline r
   pub namings-are : n ≡ Tableau.namings (tableauIn s)
   pub few-namings : n ≤ 65536
-  pub verdict-is : {v : Verdict} → Judged (goalsAt ms ln w base names others goal) n v → goalVerdict s ≡ verdictOf v
+  pub verdict-is : {v : Verdict} → Judged (goalsAt ms ln w base names others goal) n v → verdictIn s ≡ verdictOf v

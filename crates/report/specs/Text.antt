@@ -3,25 +3,20 @@ use mathlib.Core.List.{List, [], _∷_, _++_, map}
 use Prim.Native.Nat.{ℕ, zero, suc}
 use lib.ListN.{length, take}
 use Rattle.ctl.specs.Lists.{below}
-use Rattle.ctl.specs.Positive.{positive}
 use Rattle.ctl.specs.Tableau.{namings, startTypes}
-use Rattle.ctl.specs.Verdict.{Verdict, roundsOf, survivingTypes, verdict}
-use Rattle.sheet.specs.Reading.{formulas, goalOf}
+use Rattle.ctl.specs.Verdict.{roundsOf, survivingTypes}
 use Rattle.reader.specs.Reader.{refusalOf}
 use Rattle.prepare.specs.Prepared.{tableauIn}
+use Rattle.fitted.specs.Accepted.{verdictIn}
 use Rattle.lines.specs.Lines.{headingLine, namingLine, refusedLine, verdictHeading, verdictLine}
 
 -- the line of naming r: how many types there are at start, how many survive (document 01's left), and the rounds
 unfoldable pub namingOf : List ℕ → List ℕ → ℕ → List ℕ
 namingOf s newline r = namingLine r (length (startTypes (tableauIn s) r)) (length (survivingTypes (tableauIn s) r)) (roundsOf (tableauIn s) r) newline
 
--- the verdict on the sheet's goal
-abbrev pub goalVerdict : List ℕ → Verdict
-goalVerdict s = verdict (tableauIn s) (positive (goalOf (formulas s)))
-
 -- the lines, where the refusal is k: that alone; or the heading, a line for each naming, and the verdict under its heading
 abbrev pub linesBy : List ℕ → List ℕ → ℕ → List (List ℕ)
-linesBy s newline zero = headingLine newline ∷ (map (namingOf s newline) (below (namings (tableauIn s))) ++ (verdictHeading newline ∷ verdictLine (goalVerdict s) newline ∷ []))
+linesBy s newline zero = headingLine newline ∷ (map (namingOf s newline) (below (namings (tableauIn s))) ++ (verdictHeading newline ∷ verdictLine (verdictIn s) newline ∷ []))
 linesBy s newline (suc k) = refusedLine (suc k) newline ∷ []
 
 unfoldable pub linesOf : List ℕ → List ℕ → List (List ℕ)

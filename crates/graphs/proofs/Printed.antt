@@ -12,10 +12,11 @@ use Rattle.ctl.specs.Positive.{signed}
 use Rattle.ctl.specs.Tableau.{namings, startTypes}
 use Rattle.ctl.specs.Verdict.{roundsOf, survivingTypes, verdict}
 use Rattle.layout.specs.Text.{begins, ended, has, same, split}
-use Rattle.layout.specs.Layout.{anyLong, byteWrong, declare, declared, endsRight, kindOf, kindRight, kindsFrom, kindsOf, layoutRight, lengthWrong, nameCount, nameRight, namesFrom, namesOf, startsRight, textsOf}
+use Rattle.layout.specs.Layout.{anyLong, byteWrong, endsRight, layoutRight, lengthWrong, startsRight, textsOf}
+use Rattle.head.specs.Head.{declare, declared, kindOf, kindRight, kindsFrom, kindsOf, nameCount, nameRight, namesFrom, namesOf}
 use Rattle.token.specs.Token.{pairAt, pairOf, signOf, singleOf, skip, spaces, tokenAt, tokenFrom}
-use Rattle.syntax.specs.Operators.{choiceOf}
-use Rattle.syntax.specs.Modes.{bracesAt, markedOf, modeAt, modesAt, withMode}
+use Rattle.operators.specs.Operators.{choiceOf}
+use Rattle.operators.specs.Modes.{bracesAt, markedOf, modeAt, modesAt, withMode}
 use Rattle.syntax.specs.Parse.{formulaAt, letterLow, lineAt, pathFrom, unitAt}
 use Rattle.sheet.specs.Sheet.{trees}
 use Rattle.sheet.specs.Reading.{globalsOf, goalOf}
@@ -23,7 +24,8 @@ use Rattle.sheet.specs.Refusal.{bracesWrong, conditions, grammarWrong, symbolsW
 use Rattle.reader.specs.Reader.{refusalWithin}
 use Rattle.lines.specs.Ascii.{ascii}
 use Rattle.lines.specs.Lines.{decimal, digits, headingLine, namingLine, refusedLine, spaced, verdictHeading, verdictLine}
+use Rattle.fitted.specs.Accepted.{verdictIn}
 use Rattle.report.specs.Text.{linesOf, namingOf, textOf}
 
 -- a sheet, and what is printed for it
 record Case : Type 0 where
@@ -41,7 +43,7 @@ cases =
     ∷ []
 
 computed : Case → Case
-unfolding andSpine axSpine closure closureAll closureOf dedupe elemF exSpine orSpine spine sheetTableau expand parts bytesLt isNext lean printLt symbolLt modes single signed namings startTypes roundsOf survivingTypes verdict begins ended has same split anyLong byteWrong declare declared endsRight kindOf kindRight kindsFrom kindsOf layoutRight lengthWrong nameCount nameRight namesFrom namesOf startsRight textsOf pairAt pairOf signOf singleOf skip spaces tokenAt tokenFrom choiceOf bracesAt markedOf modeAt modesAt withMode formulaAt letterLow lineAt pathFrom unitAt trees globalsOf goalOf bracesWrong conditions grammarWrong symbolsWrong refusalWithin decimal digits headingLine namingLine refusedLine spaced verdictHeading verdictLine linesOf namingOf textOf
+unfolding andSpine axSpine closure closureAll closureOf dedupe elemF exSpine orSpine spine sheetTableau expand parts bytesLt isNext lean printLt symbolLt modes single signed namings startTypes roundsOf survivingTypes verdict begins ended has same split anyLong byteWrong endsRight layoutRight lengthWrong startsRight textsOf declare declared kindOf kindRight kindsFrom kindsOf nameCount nameRight namesFrom namesOf pairAt pairOf signOf singleOf skip spaces tokenAt tokenFrom choiceOf bracesAt markedOf modeAt modesAt withMode formulaAt letterLow lineAt pathFrom unitAt trees globalsOf goalOf bracesWrong conditions grammarWrong symbolsWrong refusalWithin decimal digits headingLine namingLine refusedLine spaced verdictHeading verdictLine verdictIn linesOf namingOf textOf
 computed c = record { sheet = c .sheet; text = textOf (c .sheet) (ascii "\n") }
 
 as-printed : map computed cases ≡ cases
