@@ -15,7 +15,7 @@ use Rattle.ctl.specs.Snapshot.{follows, step}
 use Rattle.ctl.proofs.BoolLaws.{and-both, and-make, decide, false-of, or-cases, or-left, or-right, same-test, true-and-false}
 use Rattle.ctl.proofs.EvaluatorLaws.{modes-iff}
 use Rattle.ctl.proofs.ListLaws.{any-find, any-make}
-use Rattle.snapshot.specs.Store.{entryAt, ofStore}
+use Rattle.snapshot_text.specs.Store.{entryAt, ofStore}
 use Rattle.evaluator.specs.Nodes.{byMode, fieldLeads, leadsAt}
 
 -- ---- one mode, one field, all fields

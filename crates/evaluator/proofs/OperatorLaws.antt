@@ -20,7 +20,7 @@ use Rattle.ctl.proofs.BoolLaws.{decide, false-of, true-and-false}
 use Rattle.ctl.proofs.Fixpoint.{after, after-suc, after-zero}
 use Rattle.ctl.proofs.ListLaws.{any-find, any-make, any-same, below-out}
 use Rattle.ctl.proofs.NextLaws.{eachNext-same, not-someNext, someNext-same}
-use Rattle.snapshot.specs.Store.{ofStore}
+use Rattle.snapshot_text.specs.Store.{ofStore}
 use Rattle.evaluator.specs.Nodes.{auRound, edgeWords, euRound, flipWord, fullWord, leadsAt, nextWord, preWord, repeat}
 use Rattle.evaluator.proofs.EdgeLaws.{leads-same}
 use Rattle.evaluator.proofs.NodeLaws.{bit-flip, bit-full}

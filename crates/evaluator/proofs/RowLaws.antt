@@ -19,7 +19,7 @@ use Rattle.wordset.proofs.WordLaws.{filled-at, filled-past, length-filled}
 use Rattle.ctl.specs.Evaluator.{sat}
 use Rattle.truth.specs.Tables.{form}
 use Rattle.truth.proofs.ListWords.{all-list}
-use Rattle.snapshot.specs.Store.{ofStore}
+use Rattle.snapshot_text.specs.Store.{ofStore}
 use Rattle.evaluator.specs.Nodes.{allWord, cellBy, fullWord}
 use Rattle.evaluator.specs.Rows.{cellOf, rowOf}
 use Rattle.evaluator.proofs.RowMeaning.{row-at, row-length}

@@ -22,7 +22,7 @@ use Rattle.ctl.proofs.EvaluatorLaws.{sat-tru, sat-fls, sat-lit, sat-nlit, sat-a
 use Rattle.members.specs.Members.{argW, formBy, tagW}
 use Rattle.truth.specs.Tables.{Table, argAt, form, leftAt, rightAt, tagAt}
 use Rattle.truth.proofs.MemberLaws.{form-at}
-use Rattle.snapshot.specs.Store.{entryAt, ofStore}
+use Rattle.snapshot_text.specs.Store.{entryAt, ofStore}
 use Rattle.evaluator.specs.Nodes.{auWord, edgeWords, euWord, flipWord, fullWord, memberBy, memberWord, modalWord, nextWord, onWord, plainWord, preWord}
 use Rattle.evaluator.proofs.NodeLaws.{bit-flip, flip-lt}
 use Rattle.evaluator.proofs.OperatorLaws.{au-at, au-lt, each-at, eu-at, eu-lt, pre-at, pre-lt}

@@ -12,7 +12,7 @@ use Rattle.wordset.specs.Below as W
 use Rattle.ctl.specs.Lists.{anyOf, below}
 use Rattle.ctl.specs.Modes.{hasMode}
 use Rattle.members.specs.Members.{argW, tagW}
-use Rattle.snapshot.specs.Store.{entryAt}
+use Rattle.snapshot_text.specs.Store.{entryAt}
 
 -- all nodes, the nodes that are not in x, the nodes that symbol k is on
 unfoldable pub fullWord : ℕ → ℕ

@@ -5,7 +5,7 @@ ghost use mathlib.Core.Path.{_≡_};
 ghost use Prim.Native.Nat.{_+_, _*_, _≤_, _<_};
 ghost use lib.ListN.{length};
 ghost use Rattle.wordset.specs.Words.{filled};
-ghost use Rattle.snapshot.specs.Store.{entryAt};
+ghost use Rattle.snapshot_text.specs.Store.{entryAt};
 ghost use Rattle.evaluator.specs.Nodes.{byMode, fieldLeads, leadsAt, nextWord, onWord};
 
 // A byte as a number.

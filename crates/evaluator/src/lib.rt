@@ -16,7 +16,7 @@ ghost use Prim.Native.Nat.{ℕ, _*_, _≤_, _<_};
 ghost use lib.ListN.{drop, getD, length};
 ghost use Rattle.wordset.specs.Words.{filled};
 ghost use Rattle.truth.specs.Tables.{Table, form};
-ghost use Rattle.snapshot.specs.Store.{ofStore};
+ghost use Rattle.snapshot_text.specs.Store.{ofStore};
 ghost use Rattle.evaluator.specs.Nodes.{allWord, cellBy};
 ghost use Rattle.evaluator.specs.Rows.{rowOf};
 

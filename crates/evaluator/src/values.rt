@@ -16,7 +16,7 @@ ghost use Rattle.wordset.specs.Word.{wordOf};
 ghost use Rattle.wordset.specs.Words.{filled};
 ghost use Rattle.ctl.specs.Evaluator.{sat};
 ghost use Rattle.truth.specs.Tables.{Table, form};
-ghost use Rattle.snapshot.specs.Store.{ofStore};
+ghost use Rattle.snapshot_text.specs.Store.{ofStore};
 ghost use Rattle.evaluator.specs.Nodes.{memberWord, plainWord};
 
 // A member without modes, from its tag, its symbol k and its operands' nodes.

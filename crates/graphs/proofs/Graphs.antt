@@ -17,8 +17,9 @@ use Rattle.ctl.specs.Evaluator.{leads, rounds, row, sat, tableAU, tableEU}
 use Rattle.ctl.specs.Snapshot.{step}
 use Rattle.wordset.specs.Below.{allBelow, anyBelow, countBelow}
 use Rattle.evaluator.specs.Rows.{rowOf}
-use Rattle.snapshot.specs.Read.{byteStep, fits, judged, lineCount, lineFits, lineStore, readSnapshot, run, starts, twice}
-use Rattle.snapshot.specs.Store.{entryAt, ofStore}
+use Rattle.snapshot_text.specs.Lines.{byteStep, lineCount, lineStore, run, starts}
+use Rattle.snapshot.specs.Read.{fits, judged, lineFits, readSnapshot, twice}
+use Rattle.snapshot_text.specs.Store.{entryAt, ofStore}
 use Rattle.layout.specs.Text.{begins, ended, has, same, split}
 use Rattle.layout.specs.Layout.{anyLong, byteWrong, endsRight, layoutRight, lengthWrong, startsRight, textsOf}
 use Rattle.head.specs.Head.{declare, declared, kindOf, kindRight, kindsFrom, kindsOf, nameCount, nameRight, namesFrom, namesOf}
@@ -30,12 +31,12 @@ use Rattle.sheet.specs.Sheet.{trees}
 use Rattle.sheet.specs.Reading.{globalsOf, goalOf}
 use Rattle.sheet.specs.Refusal.{bracesWrong, conditions, grammarWrong, symbolsWrong}
 use Rattle.reader.specs.Reader.{refusalWithin}
-use Rattle.reader.proofs.Texts.{bytes}
-use Rattle.lockgraph.specs.declared.tables.TableAnswer.{TableAnswer}
-use Rattle.lockgraph.specs.declared.tables.TableAnswer.the-variants.{Done}
-use Rattle.lockgraph.specs.declared.verdicts.VerdictAnswer.{VerdictAnswer}
-use Rattle.lockgraph.specs.declared.verdicts.VerdictAnswer.the-variants.{Open, Unsatisfiable}
-use Rattle.lockgraph.specs.Outcomes.{snapshotRefusal, snapshotRow, tableAnswer, tableRefusal, verdictOf}
+use Rattle.layout.specs.Ascii.{ascii}
+use Rattle.outcomes.specs.declared.TableAnswer.{TableAnswer}
+use Rattle.outcomes.specs.declared.TableAnswer.the-variants.{Done}
+use Rattle.outcomes.specs.declared.VerdictAnswer.{VerdictAnswer}
+use Rattle.outcomes.specs.declared.VerdictAnswer.the-variants.{Open, Unsatisfiable}
+use Rattle.outcomes.specs.Outcomes.{snapshotRefusal, snapshotRow, tableAnswer, tableRefusal, verdictOf}
 use Rattle.fitted.specs.Accepted.{survivorsIn, verdictIn, wordsIn}
 
 -- a sheet, and what document 01 says of it: the verdict; what Table answers with stores of 4 words under a naming (how many words; types at start, left, rounds); the types that survive
@@ -49,20 +50,20 @@ record Graph : Type 0 where
 
 -- the lines of a sheet with one goal and no globals, under `k f`, `mark field`
 abbrev under : String → List ℕ
-under goal = bytes "k f\nmark field\ngoal " ++ bytes goal ++ bytes "\n"
+under goal = ascii "k f\nmark field\ngoal " ++ ascii goal ++ ascii "\n"
 
 abbrev graph : List ℕ → VerdictAnswer → Graph
 graph s v = record { sheet = s; verdict = v ∷ []; tables = []; survivors = []; rows = [] }
 
 abbrev graphs : List Graph
 graphs =
-    record { sheet = under "EX{f}k"; verdict = Open 0 2 ∷ []; tables = (0, Done 1 4 4 0) ∷ []; survivors = []; rows = (bytes "k f\n0 2\n1 0\n", 3 ∷ 2 ∷ []) ∷ [] }
+    record { sheet = under "EX{f}k"; verdict = Open 0 2 ∷ []; tables = (0, Done 1 4 4 0) ∷ []; survivors = []; rows = (ascii "k f\n0 2\n1 0\n", 3 ∷ 2 ∷ []) ∷ [] }
     ∷ graph (under "1") (Open 0 0)
     ∷ record { sheet = under "0"; verdict = Unsatisfiable ∷ []; tables = (0, Done 1 1 1 0) ∷ []; survivors = []; rows = [] }
     ∷ graph (under "EX{f}k&EX{f}!k") Unsatisfiable
     ∷ graph (under "EX{F}k&EX{F}!k") (Open 0 6)
     ∷ record {
-      sheet = bytes "k v f g\nmark name field field\nall v>(EX{f}k&EX{f}!k)\ngoal EX{g}v\n";
+      sheet = ascii "k v f g\nmark name field field\nall v>(EX{f}k&EX{f}!k)\ngoal EX{g}v\n";
       verdict = Unsatisfiable ∷ [];
       tables = (0, Done 1 16 6 1) ∷ (10, Done 1 17 6 2) ∷ [];
       survivors = (10, 0 ∷ 1 ∷ 4 ∷ 5 ∷ 16 ∷ 17 ∷ []) ∷ [];
@@ -70,9 +71,9 @@ graphs =
     }
     ∷ graph (under "AF{f}k&AX{f}0&!k") Unsatisfiable
     ∷ graph (under "A{f,F}(1Uk)&!k&EX{f}!k") Unsatisfiable
-    ∷ graph (bytes "v w f g\nname name field field\ngoal EX{f}(v&w)&EX{g}(v&!w)\n") (Open 0 12)
-    ∷ record { sheet = under "EG{f}!k"; verdict = []; tables = []; survivors = []; rows = (bytes "k f\n0 0\n", 3 ∷ []) ∷ [] }
-    ∷ record { sheet = under "AF{f}k"; verdict = []; tables = []; survivors = []; rows = (bytes "k f\n0 1\n", 2 ∷ []) ∷ (bytes "k f\n0 0\n", 2 ∷ []) ∷ [] }
+    ∷ graph (ascii "v w f g\nname name field field\ngoal EX{f}(v&w)&EX{g}(v&!w)\n") (Open 0 12)
+    ∷ record { sheet = under "EG{f}!k"; verdict = []; tables = []; survivors = []; rows = (ascii "k f\n0 0\n", 3 ∷ []) ∷ [] }
+    ∷ record { sheet = under "AF{f}k"; verdict = []; tables = []; survivors = []; rows = (ascii "k f\n0 1\n", 2 ∷ []) ∷ (ascii "k f\n0 0\n", 2 ∷ []) ∷ [] }
     ∷ []
 
 -- the row that Snapshot leaves of one of n bytes

@@ -22,7 +22,7 @@ use Rattle.sheet.specs.Sheet.{trees}
 use Rattle.sheet.specs.Reading.{globalsOf, goalOf}
 use Rattle.sheet.specs.Refusal.{bracesWrong, conditions, grammarWrong, symbolsWrong}
 use Rattle.reader.specs.Reader.{refusalWithin}
-use Rattle.lines.specs.Ascii.{ascii}
+use Rattle.layout.specs.Ascii.{ascii}
 use Rattle.lines.specs.Lines.{decimal, digits, headingLine, namingLine, refusedLine, spaced, verdictHeading, verdictLine}
 use Rattle.fitted.specs.Accepted.{verdictIn}
 use Rattle.report.specs.Text.{linesOf, namingOf, textOf}

@@ -19,9 +19,9 @@ use Rattle.truth.specs.Blocks.{listOf}
 use Rattle.tableau.specs.Families.{Survivors}
 use Rattle.start.specs.Starts.{startList, makesAll}
 use Rattle.truth.specs.Tables.{form}
-use Rattle.tableau.specs.Goals.{firstOf}
-use Rattle.tableau.specs.declared.goal.Found.{Found}
-use Rattle.tableau.specs.declared.goal.Found.the-variants.{At, Nothing}
+use Rattle.goal.specs.Goals.{firstOf}
+use Rattle.goal.specs.declared.Found.{Found}
+use Rattle.goal.specs.declared.Found.the-variants.{At, Nothing}
 use Rattle.tableau.proofs.TableWords.{start-ascend, start-below, survivors-list}
 use Rattle.tableau.specs.Matches.{Matches}
 use Rattle.tableau.proofs.TableauLaws.{surviving-types}

@@ -8,8 +8,8 @@ use Rattle.ctl.specs.Verdict as Ctl
 use Rattle.truth.specs.Truths.{trueAt}
 use Rattle.tableau.specs.Families.{Survivors}
 use Rattle.start.specs.Starts.{startList}
-use Rattle.tableau.specs.Goals.{firstOf}
-use Rattle.tableau.specs.declared.goal.Found.the-variants.{At}
+use Rattle.goal.specs.Goals.{firstOf}
+use Rattle.goal.specs.declared.Found.the-variants.{At}
 use Rattle.judge.specs.declared.Verdict.{Verdict}
 use Rattle.judge.specs.declared.Verdict.the-variants.{Open, Unsatisfiable}
 

@@ -6,9 +6,9 @@ ghost use Rattle.tableau.specs.Families.{Ready, Rounds, Survivors};
 ghost use Rattle.start.specs.Starts.{startList};
 ghost use Rattle.tableau.specs.Tabled.{Tabled};
 ghost use Rattle.judge.specs.Judged.{goalsAt, Room, Places, Judged};
-ghost use Rattle.tableau.specs.Goals.{firstOf};
-use tableau::goal::Found;
-use tableau::goal::goal_type;
+ghost use Rattle.goal.specs.Goals.{firstOf};
+use goal::Found;
+use goal::goal_type;
 use tableau::table::Counts;
 use tableau::table::table;
 

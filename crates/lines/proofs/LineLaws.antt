@@ -7,7 +7,7 @@ use lib.ListN.{length, set}
 use Rattle.judge.specs.Judged.{verdictOf}
 use Rattle.judge.specs.declared.Verdict.{Verdict}
 use Rattle.judge.specs.declared.Verdict.the-variants.{Open, Unsatisfiable}
-use Rattle.lines.specs.Ascii.{ascii}
+use Rattle.layout.specs.Ascii.{ascii}
 use Rattle.lines.specs.Lines.{decimal, headingLine, namingLine, refusedLine, spaced, verdictHeading, verdictLine}
 use Rattle.lines.specs.Put.{Put, Room}
 use Rattle.lines.proofs.PutLaws.{put-join, put-one}

@@ -4,7 +4,7 @@ use mathlib.Core.List.{List, [], _∷_, _++_}
 use Prim.Native.Nat.{ℕ, zero, suc, _+_, _/_, _%_}
 use lib.Dec.{ltb}
 use Rattle.ctl.specs.Verdict.{Verdict, open′, unsatisfiable}
-use Rattle.lines.specs.Ascii.{ascii}
+use Rattle.layout.specs.Ascii.{ascii}
 
 -- the digits of n, as many as it has, and never more than `most` of them: the last one, behind those of a tenth. The `let` keeps these from being looked at where there are none
 unfoldable pub digits : ℕ → ℕ → List ℕ

@@ -1,13 +1,8 @@
 // Book: the surviving types under every naming, in one lent store. Assumes nothing.
 use fitted::books::fitted_book;
+use outcomes::BookAnswer;
 ghost use Prim.Native.Nat.{_*_};
-ghost use Rattle.lockgraph.specs.Outcomes.{BookIs};
-
-// A refusal by its number, or how many namings there are, and how many words for each.
-pub enum BookAnswer {
-    Refused(u8),
-    Done { namings: u64, words: usize },
-}
+ghost use Rattle.outcomes.specs.Outcomes.{BookIs};
 
 // The surviving types under every naming, one after the other in a store.
 pub fn book(sheet: &[u8], store: &mut [u64]) -> BookAnswer

@@ -8,21 +8,20 @@ ghost use Rattle.reader.specs.Reader.{refusalOf};
 
 mod books;
 mod lists;
-mod refusals;
 mod snapshots;
 mod tables;
 mod verdicts;
 
-pub use books::BookAnswer;
 pub use books::book;
-pub use lists::ListAnswer;
 pub use lists::list;
-pub use snapshots::SnapshotAnswer;
+pub use outcomes::BookAnswer;
+pub use outcomes::ListAnswer;
+pub use outcomes::SnapshotAnswer;
+pub use outcomes::TableAnswer;
+pub use outcomes::VerdictAnswer;
+pub use outcomes::parts::part;
 pub use snapshots::snapshot;
-pub use tables::TableAnswer;
-pub use tables::part;
 pub use tables::table;
-pub use verdicts::VerdictAnswer;
 pub use verdicts::verdict;
 
 // The number of the sheet's refusal, 1 to 10; 0 where it is accepted.

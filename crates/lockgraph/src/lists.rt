@@ -1,14 +1,9 @@
 // List: the surviving types under one naming, as numbers in a lent store. Assumes nothing.
-use crate::refusals::naming_refusal;
-use crate::refusals::or_else;
 use fitted::tables::fitted_table;
-ghost use Rattle.lockgraph.specs.Outcomes.{ListIs};
-
-// A refusal by its number, or how many types survive.
-pub enum ListAnswer {
-    Refused(u8),
-    Done { left: usize },
-}
+use outcomes::ListAnswer;
+use outcomes::refusals::naming_refusal;
+use outcomes::refusals::or_else;
+ghost use Rattle.outcomes.specs.Outcomes.{ListIs};
 
 // The surviving types under a naming as numbers at the beginning of a store.
 pub fn list(sheet: &[u8], naming: u64, store: &mut [u16]) -> ListAnswer

@@ -1,13 +1,8 @@
 // Snapshot: at which nodes of a given snapshot the goal and the globals hold. Assumes nothing.
-ghost use Rattle.lockgraph.specs.Outcomes.{SnapshotIs};
-ghost use Rattle.lockgraph.specs.Demands.{SnapshotMeans};
+use outcomes::SnapshotAnswer;
+ghost use Rattle.outcomes.specs.Outcomes.{SnapshotIs};
+ghost use Rattle.outcomes.specs.Demands.{SnapshotMeans};
 use snapshot::Answer;
-
-// A refusal by its number, or how many nodes the snapshot has.
-pub enum SnapshotAnswer {
-    Refused(u8),
-    Done { nodes: usize },
-}
 
 // A byte of the row for each node: 1 if the goal holds there, plus 2 if all globals do.
 pub fn snapshot(sheet: &[u8], text: &[u8], row: &mut [u8]) -> SnapshotAnswer

@@ -1,26 +1,10 @@
 // Verdict: whether the goal is open or unsatisfiable. Assumes nothing.
 use fitted::verdicts::fitted_verdict;
-use judge::Verdict;
+use outcomes::VerdictAnswer;
+use outcomes::verdicts::answer_by;
 ghost use mathlib.Core.Path.{_≡_};
-ghost use Rattle.judge.specs.Judged as Judged;
-ghost use Rattle.lockgraph.specs.Outcomes.{verdictBy, verdictOf};
-ghost use Rattle.lockgraph.specs.Demands.{VerdictDemand2, VerdictDemand3};
-
-// A refusal by its number, or the least naming under which a surviving type has the goal, with the least such type; or that there is none.
-pub enum VerdictAnswer {
-    Refused(u8),
-    Open { naming: u64, least: usize },
-    Unsatisfiable,
-}
-
-fn answer_by(v: Verdict) -> VerdictAnswer
-    ensures { λ r. ⌜ r ≡ verdictBy (Judged.verdictOf v) ⌝ }
-{
-    match v {
-        Verdict::Open { naming, least } => VerdictAnswer::Open { naming, least },
-        Verdict::Unsatisfiable => VerdictAnswer::Unsatisfiable,
-    }
-}
+ghost use Rattle.outcomes.specs.Outcomes.{verdictOf};
+ghost use Rattle.outcomes.specs.Demands.{VerdictDemand2, VerdictDemand3};
 
 // Whether the goal is unsatisfiable: crossed out of the design.
 pub fn verdict(sheet: &[u8]) -> VerdictAnswer

@@ -7,18 +7,18 @@ use lib.Dec.{eqb}
 use lib.ListN.{length, take, drop}
 use Rattle.sheet.specs.Sheet.{goalStart, goalUnder}
 use Rattle.reader.specs.Reader.{refusalOf}
-use Rattle.lockgraph.specs.declared.tables.TableAnswer.{TableAnswer}
-use Rattle.lockgraph.specs.declared.tables.TableAnswer.the-variants as Table
-use Rattle.lockgraph.specs.declared.books.BookAnswer.{BookAnswer}
-use Rattle.lockgraph.specs.declared.books.BookAnswer.the-variants as Book
-use Rattle.lockgraph.specs.declared.lists.ListAnswer.{ListAnswer}
-use Rattle.lockgraph.specs.declared.lists.ListAnswer.the-variants as Listing
-use Rattle.lockgraph.specs.declared.snapshots.SnapshotAnswer.{SnapshotAnswer}
-use Rattle.lockgraph.specs.declared.snapshots.SnapshotAnswer.the-variants as Judged
-use Rattle.lockgraph.specs.declared.verdicts.VerdictAnswer.{VerdictAnswer}
-use Rattle.lockgraph.specs.declared.verdicts.VerdictAnswer.the-variants as Judging
-use Rattle.lockgraph.specs.Demands.{SnapshotMeans, TableDemand2, TableDemand3, VerdictDemand2, VerdictDemand3}
-use Rattle.lockgraph.specs.Outcomes.{BookIs, ListIs, SnapshotIs, TableIs, verdictOf}
+use Rattle.outcomes.specs.declared.TableAnswer.{TableAnswer}
+use Rattle.outcomes.specs.declared.TableAnswer.the-variants as Table
+use Rattle.outcomes.specs.declared.BookAnswer.{BookAnswer}
+use Rattle.outcomes.specs.declared.BookAnswer.the-variants as Book
+use Rattle.outcomes.specs.declared.ListAnswer.{ListAnswer}
+use Rattle.outcomes.specs.declared.ListAnswer.the-variants as Listing
+use Rattle.outcomes.specs.declared.SnapshotAnswer.{SnapshotAnswer}
+use Rattle.outcomes.specs.declared.SnapshotAnswer.the-variants as Judged
+use Rattle.outcomes.specs.declared.VerdictAnswer.{VerdictAnswer}
+use Rattle.outcomes.specs.declared.VerdictAnswer.the-variants as Judging
+use Rattle.outcomes.specs.Demands.{SnapshotMeans, TableDemand2, TableDemand3, VerdictDemand2, VerdictDemand3}
+use Rattle.outcomes.specs.Outcomes.{BookIs, ListIs, SnapshotIs, TableIs, verdictOf}
 
 -- ---- Table
 

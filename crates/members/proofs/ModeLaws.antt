@@ -1,4 +1,4 @@
--- Sets of modes: the mode of a set of one mode, and what holds of some mode, or of each, of a set. Assumes nothing.
+-- Sets of modes: the mode of a set of one mode, and what holds of some mode, or of each, of a set; before it, of some number below a bound. Assumes nothing.
 use mathlib.Core.Path.{_≡_, refl, sym, ap, _∙_}
 use mathlib.Core.Bool.{Bool, true, not, _&&_}
 use mathlib.Core.Logic.{_⊎_, inl, inr}
@@ -52,24 +52,29 @@ mode-one (inr k) h = absurd (let l = k .0 in omega arith)
 pub mode-single : {r a : ℕ} → ((r < 16) × (a ≡ 2 ^ r)) ⊎ ((r ≡ 16) × (single a ≡ true → ⊥)) → r < 16 → single a ≡ true
 mode-single {r} {a} k h = ap single (mode-one k h) ∙ true-T (single (2 ^ r)) (single-in {m = r} (below-in h))
 
--- ---- several modes
+-- ---- tests of the numbers below a bound
 
-some-mode : (P : ℕ → Bool) → T (anyBelow 16 P) → (m : ℕ) × (m < 16) × T (P m)
-some-mode P h = let l = least-lt 16 P (true-T _ h) in (least 16 P, l, T-true _ (least-holds 16 P l))
+pub some-below : (n : ℕ) (P : ℕ → Bool) → T (anyBelow n P) → (j : ℕ) × (j < n) × T (P j)
+some-below n P h = let l = least-lt n P (true-T _ h) in (least n P, l, T-true _ (least-holds n P l))
+
+pub some-in : (n : ℕ) (P : ℕ → Bool) (j : ℕ) → j < n → T (P j) → T (anyBelow n P)
+some-in n P j h t = T-true _ (any-intro P n j h (true-T _ t))
+
+-- ---- several modes
 
 pub some-any : (f : ℕ → Bool) (a : ℕ) → anyBelow 16 (λ m. hasMode a m && f m) ≡ L.anyOf f (modes a)
 some-any f a =
     both-ways _ _
-    (λ h. (let w = some-mode (λ m. hasMode a m && f m) h in
+    (λ h. (let w = some-below 16 (λ m. hasMode a m && f m) h in
     any-in f (modes-has a (w .0) (w .1) (and-0 (hasMode a (w .0)) (f (w .0)) (w .2))) (and-1 (hasMode a (w .0)) (f (w .0)) (w .2))))
     (λ h. (let w = any-out f (modes a) h in let k = modes-in a (w .1) in
-    T-true _ (any-intro (λ m. hasMode a m && f m) 16 (w .0) (mode-lt (k .0)) (true-T _ (and-in (hasMode a (w .0)) (f (w .0)) (k .1) (w .2))))))
+    some-in 16 (λ m. hasMode a m && f m) (w .0) (mode-lt (k .0)) (and-in (hasMode a (w .0)) (f (w .0)) (k .1) (w .2))))
 
 pub every-all : (f : ℕ → Bool) (a : ℕ) → not (anyBelow 16 (λ m. hasMode a m && not (f m))) ≡ L.allOf f (modes a)
 every-all f a =
     both-ways _ _
     (λ h. all-in f (modes a) (λ m i. not-absurd (f m) (λ n. (let k = modes-in a i in T-not (anyBelow 16 (λ m. hasMode a m && not (f m))) h
-    (T-true _ (any-intro (λ m. hasMode a m && not (f m)) 16 m (mode-lt (k .0)) (true-T _ (and-in (hasMode a m) (not (f m)) (k .1) n))))))))
-    (λ h. not-T (anyBelow 16 (λ m. hasMode a m && not (f m))) (λ g. (let w = some-mode (λ m. hasMode a m && not (f m)) g in
+    (some-in 16 (λ m. hasMode a m && not (f m)) m (mode-lt (k .0)) (and-in (hasMode a m) (not (f m)) (k .1) n))))))
+    (λ h. not-T (anyBelow 16 (λ m. hasMode a m && not (f m))) (λ g. (let w = some-below 16 (λ m. hasMode a m && not (f m)) g in
     T-not (f (w .0)) (and-1 (hasMode a (w .0)) (not (f (w .0))) (w .2))
     (all-out f h (modes-has a (w .0) (w .1) (and-0 (hasMode a (w .0)) (not (f (w .0))) (w .2)))))))

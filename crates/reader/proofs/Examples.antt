@@ -17,30 +17,30 @@ use Rattle.syntax.specs.Parse.{letterLow, pathFrom, formulaAt, unitAt, lineAt}
 use Rattle.sheet.specs.Sheet.{trees}
 use Rattle.sheet.specs.Refusal.{conditions, grammarWrong, symbolsWrong, bracesWrong}
 use Rattle.reader.specs.Reader.{refusalWithin, refusalOf}
-use Rattle.reader.proofs.Texts.{bytes}
+use Rattle.layout.specs.Ascii.{ascii}
 
 -- one letter k more than n, joined
 abbrev joined : ℕ → List ℕ
-joined zero = bytes "k\n"
-joined (suc n) = bytes "k&" ++ joined n
+joined zero = ascii "k\n"
+joined (suc n) = ascii "k&" ++ joined n
 
 abbrev cases : List (List ℕ × ℕ)
 cases =
-    (bytes "k f\nmark field\ngoal EX{f}\n", 6)
-    ∷ (bytes "k f\nmark field\ngoal EX{k}k\n", 7)
-    ∷ (bytes "k f\nmark field\ngoal EX{}k\n", 8)
-    ∷ (bytes "k f\nmark field\ngoal " ++ joined 63, 0)
-    ∷ (bytes "k f\nmark field\ngoal " ++ joined 64, 9)
-    ∷ (bytes "a b c d e g h f\nmark mark mark mark mark mark mark field\ngoal a&b&c&d&e&g&h&EX{f}a\n", 0)
-    ∷ (bytes "a b c d e g h f\nmark mark mark mark mark mark mark field\ngoal a&b&c&d&e&g&h&EX{f}a&EX{f}b\n", 10)
-    ∷ (bytes "", 1)
-    ∷ (bytes "k f\nmark field\ngoal \t\n", 2)
-    ∷ (bytes "k f\nmark field\ngoal k", 3)
-    ∷ (bytes "k k\nmark field\ngoal k\n", 4)
-    ∷ (bytes "k f\nmark  field\ngoal k\n", 5)
-    ∷ (bytes "k f\nmark field\nall EX{}k\ngoal EX{\n", 6)
-    ∷ (bytes "k f\nmark field\nall EX{}k\ngoal z\n", 7)
-    ∷ (bytes "k f\nmark field\ngoal EX{f}k\n", 0)
+    (ascii "k f\nmark field\ngoal EX{f}\n", 6)
+    ∷ (ascii "k f\nmark field\ngoal EX{k}k\n", 7)
+    ∷ (ascii "k f\nmark field\ngoal EX{}k\n", 8)
+    ∷ (ascii "k f\nmark field\ngoal " ++ joined 63, 0)
+    ∷ (ascii "k f\nmark field\ngoal " ++ joined 64, 9)
+    ∷ (ascii "a b c d e g h f\nmark mark mark mark mark mark mark field\ngoal a&b&c&d&e&g&h&EX{f}a\n", 0)
+    ∷ (ascii "a b c d e g h f\nmark mark mark mark mark mark mark field\ngoal a&b&c&d&e&g&h&EX{f}a&EX{f}b\n", 10)
+    ∷ (ascii "", 1)
+    ∷ (ascii "k f\nmark field\ngoal \t\n", 2)
+    ∷ (ascii "k f\nmark field\ngoal k", 3)
+    ∷ (ascii "k k\nmark field\ngoal k\n", 4)
+    ∷ (ascii "k f\nmark  field\ngoal k\n", 5)
+    ∷ (ascii "k f\nmark field\nall EX{}k\ngoal EX{\n", 6)
+    ∷ (ascii "k f\nmark field\nall EX{}k\ngoal z\n", 7)
+    ∷ (ascii "k f\nmark field\ngoal EX{f}k\n", 0)
     ∷ []
 
 found : map (λ c. refusalOf (c .0)) cases ≡ map (λ c. c .1) cases

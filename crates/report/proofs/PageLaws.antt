@@ -7,11 +7,11 @@ use native.Mathlib.Omega.{arith}
 use lib.ListN.{length, take}
 use Rattle.wordset.proofs.BelowLaws.{top}
 use Rattle.tableau.specs.Families.{Rounds, Survivors}
-use Rattle.tableau.specs.Goals.{firstOf}
+use Rattle.goal.specs.Goals.{firstOf}
 use Rattle.start.specs.Starts.{startList}
 use Rattle.tableau.specs.Tabled.{Tabled}
-use Rattle.tableau.specs.declared.goal.Found.{Found}
-use Rattle.tableau.specs.declared.goal.Found.the-variants.{At, Nothing}
+use Rattle.goal.specs.declared.Found.{Found}
+use Rattle.goal.specs.declared.Found.the-variants.{At, Nothing}
 use Rattle.tableau.specs.declared.table.Counts.{Counts}
 use Rattle.naming.specs.Next.{nextOf}
 use Rattle.naming.specs.declared.Naming.{Naming}

@@ -1,7 +1,7 @@
 -- The verdict on some namings and one more, from that on the former and what was found for the latter. Assumes nothing.
 use Prim.Native.Nat.{ℕ}
-use Rattle.tableau.specs.declared.goal.Found.{Found}
-use Rattle.tableau.specs.declared.goal.Found.the-variants.{At, Nothing}
+use Rattle.goal.specs.declared.Found.{Found}
+use Rattle.goal.specs.declared.Found.the-variants.{At, Nothing}
 use Rattle.judge.specs.declared.Verdict.{Verdict}
 use Rattle.judge.specs.declared.Verdict.the-variants.{Open, Unsatisfiable}
 

@@ -6,9 +6,9 @@ ghost use Rattle.tableau.specs.Families.{Ready};
 ghost use Rattle.judge.specs.Judged.{goalsAt, Places, Judged};
 ghost use Rattle.report.specs.Later.{laterOf};
 ghost use Rattle.report.specs.Pages.{Paged, rowAt};
+use goal::Found;
 use judge::Verdict;
 use naming::Naming;
-use tableau::goal::Found;
 
 // The verdict on namings 0 to r, from that on those before r and what was found for r.
 fn later(v: Verdict, r: u64, found: Found) -> Verdict
@@ -78,7 +78,7 @@ pub fn fill_page(
             &mut second,
         );
         k = lines::put_naming(out, k, r, c, newline);
-        let found = tableau::goal::goal_type(ms, ln, w, tw, goal, &first);
+        let found = goal::goal_type(ms, ln, w, tw, goal, &first);
         v = later(v, r, found);
         n = naming::advanced(n);
         if out.len() - k < 256 {

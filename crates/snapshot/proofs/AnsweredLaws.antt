@@ -14,15 +14,16 @@ use Rattle.ctl.specs.Snapshot.{entry, ofLines, NamesSingle}
 use Rattle.ctl.proofs.BoolLaws.{true-T, T-true, and-both, true-and-false}
 use Rattle.snapshot.specs.declared.Answer.{Answer}
 use Rattle.snapshot.specs.declared.Answer.the-variants.{Nodes, Refused}
-use Rattle.snapshot.specs.Store.{entryAt}
-use Rattle.snapshot.specs.Text.{Text, Taken}
-use Rattle.snapshot.specs.Read.{lineCount, lineStore, limit, lineFits, fits, onCount, twice, judged, readSnapshot}
+use Rattle.snapshot_text.specs.Store.{entryAt}
+use Rattle.snapshot_text.specs.Text.{Text, Taken}
+use Rattle.snapshot_text.specs.Lines.{lineCount, lineStore}
+use Rattle.snapshot.specs.Read.{limit, lineFits, fits, onCount, twice, judged, readSnapshot}
 use Rattle.snapshot.specs.Answered.{Above, Within, OnTwo, Held, Answered, no-text, too-high, on-two, of-nodes}
-use Rattle.snapshot.proofs.ReadLaws.{getD-past}
+use Rattle.snapshot_text.proofs.ReadLaws.{getD-past}
 use Rattle.snapshot.proofs.EntryLaws.{entryFits, nameTwice, judged-13}
 use Rattle.snapshot.proofs.CountLaws.{some-fails, some-passes, Two, two-counted, counted-two}
-use Rattle.snapshot.proofs.TextLaws.{same-snapshot, taken, text-taken}
-use Rattle.snapshot.proofs.OnlyLines.{same-lines}
+use Rattle.snapshot_text.proofs.TextLaws.{same-snapshot, taken, text-taken}
+use Rattle.snapshot_text.proofs.OnlyLines.{same-lines}
 
 module _ (kinds : List ℕ) (h8 : length kinds ≤ 8) (out : List ℕ) (lines : List (List ℕ)) (e : (i k : ℕ) → entryAt out i k ≡ entry lines k i) where
   -- ---- the entries of the store are those of the lines

@@ -1,11 +1,3 @@
-pub mod Listed
-pub mod ReadLaws
 pub mod EntryLaws
-pub mod Spelling
-pub mod Storing
-pub mod Spelt
-pub mod Folding
-pub mod TextLaws
-pub mod OnlyLines
 pub mod CountLaws
 pub mod AnsweredLaws

@@ -7,8 +7,8 @@ use lib.ListN.{length, getD}
 use Rattle.ctl.specs.Snapshot.{entry, ofLines, NamesSingle}
 use Rattle.snapshot.specs.declared.Answer.{Answer}
 use Rattle.snapshot.specs.declared.Answer.the-variants.{Nodes, Refused}
-use Rattle.snapshot.specs.Store.{ofStore}
-use Rattle.snapshot.specs.Text.{Text}
+use Rattle.snapshot_text.specs.Store.{ofStore}
+use Rattle.snapshot_text.specs.Text.{Text}
 use Rattle.snapshot.specs.Read.{limit}
 
 module _ (kinds : List ℕ) (lines : List (List ℕ)) where

@@ -1,4 +1,2 @@
-pub mod Store
-pub mod Text
 pub mod Read
 pub mod Answered

@@ -1,12 +1,12 @@
-// A snapshot's text, read into a store of entries: the entry of symbol k at node i is at place 8 * i + k. The kinds of the symbols, in line 1
-// order, are 1 for a mark, 2 for a name and 3 for a field. Assumes nothing.
+// A snapshot's text with its answer: its entries are read into a store (`snapshot_text`), and held against their limits. The kinds of the symbols, in line 1 order, are
+// 1 for a mark, 2 for a name and 3 for a field. Assumes nothing.
 mod entries;
-mod text;
 
 ghost use mathlib.Core.Path.{_≡_};
 ghost use Prim.Native.Nat.{_*_, _≤_};
 ghost use lib.ListN.{length};
-ghost use Rattle.snapshot.specs.Read.{lineStore, judged, readSnapshot, Few};
+ghost use Rattle.snapshot_text.specs.Lines.{lineStore};
+ghost use Rattle.snapshot.specs.Read.{judged, readSnapshot, Few};
 
 // The number of the refusal, or the node count.
 pub enum Answer {
@@ -39,6 +39,6 @@ pub fn read(line: &[u8], kinds: &[u8], s: &[u8], out: &mut [u8]) -> Answer
     ensures { λ r. ⌜ now (out .exit) ≡ lineStore (now (line .entry)) (length (now (kinds .entry))) (now (s .entry)) (now (out .entry)) ⌝ }
     ensures { λ r. ⌜ Few r ⌝ }
 {
-    let n = text::lines(line, kinds.len(), s, out);
+    let n = snapshot_text::lines(line, kinds.len(), s, out);
     judge(kinds, n, out)
 }

@@ -26,9 +26,9 @@ use Rattle.truth.specs.Truths.{Tr, trueAt}
 use Rattle.links.specs.Links.{Lk, asked, asksBy, meets, rowsOf}
 use Rattle.tableau.specs.Families.{Follows, Linked, Next, Ready, passes}
 use Rattle.truth.proofs.TestLaws.{to-or}
-use Rattle.truth.proofs.ListWords.{any-listed, list-in, list-out, some-below, some-in}
+use Rattle.truth.proofs.ListWords.{any-listed, list-in, list-out}
 use Rattle.truth.proofs.MemberLaws.{all-forms, form-tag, tag-of}
-use Rattle.members.proofs.ModeLaws.{own-mode}
+use Rattle.members.proofs.ModeLaws.{own-mode, some-below, some-in}
 use Rattle.truth.proofs.TruthLaws.{truth-bit}
 
 -- ---- the modes of an EX or of an EU are asked for

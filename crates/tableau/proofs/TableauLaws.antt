@@ -25,7 +25,7 @@ use Rattle.wordset.proofs.BelowLaws.{all-elim, all-ext, all-intro}
 use Rattle.wordset.proofs.CompareLaws.{beq-true, beq-refl}
 use Rattle.wordset.specs.Below.{allBelow}
 use Rattle.wordset.specs.Words.{member, packed}
-use Rattle.tableau.specs.declared.goal.Found.{Found}
+use Rattle.goal.specs.declared.Found.{Found}
 use Rattle.tableau.specs.declared.table.Counts.{Counts}
 use Rattle.members.specs.Members.{forms}
 use Rattle.truth.specs.Tables.{form, leanForms}
@@ -33,7 +33,7 @@ use Rattle.truth.specs.Truths.{Tr, trueAt}
 use Rattle.tableau.specs.Families.{Rounds, Survivors}
 use Rattle.truth.specs.Blocks.{listOf}
 use Rattle.start.specs.Starts.{fitsSet, makesAll, nameSet, obeysBy, placeFits, startList}
-use Rattle.tableau.specs.Goals.{firstOf}
+use Rattle.goal.specs.Goals.{firstOf}
 use Rattle.tableau.specs.Tabled.{Tabled}
 use Rattle.tableau.specs.Matches.{Matches}
 use Rattle.truth.proofs.ListWords.{all-front, all-list, held}

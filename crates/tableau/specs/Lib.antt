@@ -1,4 +1,3 @@
 pub mod Families
-pub mod Goals
 pub mod Tabled
 pub mod Matches

@@ -1,16 +1,16 @@
 // The elimination, by words: a round keeps the types of a family that lack nothing which a true closure member asks for, and rounds go on
 // until one eliminates nothing. Assumes nothing.
-use crate::reach::confine;
-use crate::reach::confine_linked;
-use crate::reach::covers;
-use crate::reach::pick;
-use crate::reach::step;
 use members::parts::arg;
 use members::parts::has_mode;
 use members::parts::left;
 use members::parts::mode_of;
 use members::parts::right;
 use members::parts::tag;
+use reach::confine;
+use reach::confine_linked;
+use reach::covers;
+use reach::pick;
+use reach::step;
 ghost use mathlib.Core.Path.{_≡_};
 ghost use mathlib.Core.Bool.{Bool·beq, true, not, _&&_};
 ghost use Prim.Native.Nat.{ℕ, _+_, _*_, _≤_, _<_};

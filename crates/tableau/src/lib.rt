@@ -3,6 +3,4 @@
 // which member i is true) and lw the link words (word m: where the rows of mode m begin; row t: the types that t is linked to by it). Assumes
 // nothing.
 pub mod eliminate;
-pub mod goal;
-mod reach;
 pub mod table;

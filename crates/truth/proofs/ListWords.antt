@@ -9,22 +9,17 @@ use native.Mathlib.Nat.{add-zero, add-suc, suc-add}
 use lib.Dec.{T}
 use lib.ListN.{length, getD}
 use Rattle.ctl.specs.Lists as L
-use Rattle.ctl.proofs.BoolLaws.{T-cast, T-cast⁻, T-true, and-0, and-1, and-in, both-ways, true-T}
+use Rattle.ctl.proofs.BoolLaws.{T-cast, T-cast⁻, and-0, and-1, and-in, both-ways}
 use Rattle.ctl.proofs.ListLaws.{any-in, any-out, below-in, below-out, elem-in, elem-out, keep-in, keep-out, Ascending, ascending-count, ascending-keep, ascending-same, keep-length}
 use Rattle.ctl.specs.Lists.{_∈_, below, elem, keep, countFrom, put}
-use Rattle.wordset.proofs.BelowLaws.{any-intro, least-holds, least-lt, count-ext, count-front}
-use Rattle.wordset.specs.Below.{anyBelow, allBelow, least, countBelow, one}
+use Rattle.wordset.proofs.BelowLaws.{count-ext, count-front}
+use Rattle.wordset.specs.Below.{anyBelow, allBelow, countBelow, one}
 use Rattle.wordset.specs.Words.{member, packed, minus, join}
 use Rattle.wordset.proofs.WordLaws.{member-packed}
+use Rattle.members.proofs.ModeLaws.{some-below, some-in}
 use Rattle.truth.specs.Blocks.{has, listOf}
 
 -- ---- tests of the numbers below a bound
-
-pub some-below : (n : ℕ) (P : ℕ → Bool) → T (anyBelow n P) → (j : ℕ) × (j < n) × T (P j)
-some-below n P h = let l = least-lt n P (true-T _ h) in (least n P, l, T-true _ (least-holds n P l))
-
-pub some-in : (n : ℕ) (P : ℕ → Bool) (j : ℕ) → j < n → T (P j) → T (anyBelow n P)
-some-in n P j h t = T-true _ (any-intro P n j h (true-T _ t))
 
 pub all-front : (n : ℕ) (Q : ℕ → Bool) → allBelow (suc n) Q ≡ (Q 0 && allBelow n (λ i. Q (suc i)))
 unfolding allBelow

@@ -1,7 +1,7 @@
 -- `entry` meets its contract: the entry for a symbol below 8, else 0. Assumes nothing.
 use mathlib.Core.Path.{_∙_}
 use borrow.Author.Tests.{lt-ltb, le-ltb}
-use Rattle.snapshot.specs.Store.{entryAt}
+use Rattle.snapshot_text.specs.Store.{entryAt}
 use borrow.Author.Needs.{needs}
 use Rattle.evaluator.proofs.edges.entry.Statement.{statement}
 use Rattle.evaluator.proofs.edges.entry.Tie as tie

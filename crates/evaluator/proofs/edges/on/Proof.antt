@@ -3,7 +3,7 @@ use Prim.Native.Nat.{ℕ, _-_}
 use mathlib.Core.Path.{ap}
 use lib.Dec.{eqb}
 use native.Mathlib.Omega.{arith}
-use Rattle.snapshot.specs.Store.{entryAt}
+use Rattle.snapshot_text.specs.Store.{entryAt}
 use Rattle.evaluator.specs.Nodes.{onWord}
 use Rattle.evaluator.proofs.NodeLaws.{Gathering, gather-begin, gather-on, gather-end}
 use borrow.Author.Needs.{needs}

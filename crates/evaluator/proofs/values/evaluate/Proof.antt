@@ -7,7 +7,7 @@ use Rattle.wordset.specs.Word.{wordOf}
 use Rattle.wordset.proofs.Filling.{Filling, begins, ends, goes}
 use Rattle.ctl.specs.Evaluator.{sat}
 use Rattle.truth.specs.Tables.{form}
-use Rattle.snapshot.specs.Store.{ofStore}
+use Rattle.snapshot_text.specs.Store.{ofStore}
 use Rattle.evaluator.proofs.SatLaws.{member-next}
 use Rattle.evaluator.proofs.values.evaluate.Statement.{statement}
 use Rattle.evaluator.proofs.values.evaluate.Tie as tie

@@ -1,6 +1,6 @@
 -- `book` meets its contract. Assumes nothing.
 use native.Mathlib.Omega.{arith}
-use Rattle.lockgraph.proofs.BookingLaws.{book-done, book-refused, book-short, needed-fits}
+use Rattle.outcomes.proofs.BookingLaws.{book-done, book-refused, book-short, needed-fits}
 use borrow.Author.Needs.{needs}
 use Rattle.lockgraph.proofs.books.book.Statement.{statement}
 use Rattle.lockgraph.proofs.books.book.Tie as tie

@@ -1,8 +1,8 @@
 -- `list` meets its contract. Assumes nothing.
 use lib.ListN.{replicate}
 use Rattle.fitted.proofs.AcceptedLaws.{few-words, four, store-lists}
-use Rattle.lockgraph.proofs.RefusalLaws.{naming-number, set-up-zero}
-use Rattle.lockgraph.proofs.ListingLaws.{list-done, list-refused, list-room, list-short}
+use Rattle.outcomes.proofs.RefusalLaws.{naming-number, set-up-zero}
+use Rattle.outcomes.proofs.ListingLaws.{list-done, list-refused, list-room, list-short}
 use borrow.Author.Needs.{needs}
 use Rattle.lockgraph.proofs.lists.list.Statement.{statement}
 use Rattle.lockgraph.proofs.lists.list.Tie as tie

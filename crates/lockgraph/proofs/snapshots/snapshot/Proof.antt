@@ -4,7 +4,7 @@ use native.Mathlib.Omega.{arith}
 use denote.Struct.Field.{u64-field, u8-field, usize-field}
 use lib.Seq.{length-take-le}
 use Rattle.frame.proofs.SetUpLaws.{count-within, symbols-within}
-use Rattle.lockgraph.proofs.SnapshotLaws.{fill-asked, kinds-few, last-few, row-short, snapshot-done, snapshot-means, snapshot-refused, some-formula, text-refused, whole}
+use Rattle.outcomes.proofs.SnapshotLaws.{fill-asked, kinds-few, last-few, row-short, snapshot-done, snapshot-means, snapshot-refused, some-formula, text-refused, whole}
 use borrow.Author.Needs.{needs, length-unmapped}
 use Rattle.lockgraph.proofs.snapshots.snapshot.Statement.{statement}
 use Rattle.lockgraph.proofs.snapshots.snapshot.Tie as tie

@@ -1,8 +1,8 @@
 -- `table` meets its contract. Assumes nothing.
 use Rattle.fitted.proofs.AcceptedLaws.{words-are}
-use Rattle.lockgraph.proofs.RefusalLaws.{set-up-zero, table-number, table-room}
-use Rattle.lockgraph.proofs.TableLaws.{table-done, table-refused}
-use Rattle.lockgraph.proofs.DemandLaws.{set-up-wide, table-demand-2, table-demand-3}
+use Rattle.outcomes.proofs.RefusalLaws.{set-up-zero, table-number, table-room}
+use Rattle.outcomes.proofs.TableLaws.{table-done, table-refused}
+use Rattle.outcomes.proofs.DemandLaws.{set-up-wide, table-demand-2, table-demand-3}
 use borrow.Author.Needs.{needs}
 use Rattle.lockgraph.proofs.tables.table.Statement.{statement}
 use Rattle.lockgraph.proofs.tables.table.Tie as tie

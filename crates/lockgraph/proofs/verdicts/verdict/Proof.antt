@@ -1,6 +1,6 @@
 -- `verdict` meets its contract. Assumes nothing.
-use Rattle.lockgraph.proofs.VerdictLaws.{verdict-judged, verdict-refused}
-use Rattle.lockgraph.proofs.DemandLaws.{verdict-demand-2, verdict-demand-3}
+use Rattle.outcomes.proofs.VerdictLaws.{verdict-judged, verdict-refused}
+use Rattle.outcomes.proofs.DemandLaws.{verdict-demand-2, verdict-demand-3}
 use borrow.Author.Needs.{needs}
 use Rattle.lockgraph.proofs.verdicts.verdict.Statement.{statement}
 use Rattle.lockgraph.proofs.verdicts.verdict.Tie as tie

@@ -14,7 +14,7 @@ use Rattle.truth.proofs.BlockLaws.{block-fits, tail, tail-room}
 use Rattle.truth.proofs.TruthLaws.{truth-bit}
 use Rattle.members.proofs.ModeLaws.{mode-one, mode-wide}
 use Rattle.tableau.proofs.Asks.{asked-ex, follow-mode, follow-next, follow-none, follow-wide, meets-next}
-use Rattle.tableau.proofs.Stepping.{idle, linked-member}
+use Rattle.reach.proofs.Stepping.{idle, linked-member}
 use Rattle.tableau.proofs.eliminate.follow.Statement.{statement}
 use Rattle.tableau.proofs.eliminate.follow.Tie as tie
 

@@ -10,7 +10,7 @@ use Rattle.truth.specs.Tables.{form}
 use Rattle.tableau.specs.Families.{Follows}
 use Rattle.truth.specs.Blocks.{listOf}
 use Rattle.tableau.proofs.Asks.{all-lean}
-use Rattle.tableau.proofs.Stepping.{Followed, follow-end, follow-on, follow-start}
+use Rattle.reach.proofs.Stepping.{Followed, follow-end, follow-on, follow-start}
 use Rattle.tableau.proofs.eliminate.follow_all.Statement.{statement}
 use Rattle.tableau.proofs.eliminate.follow_all.Tie as tie
 

@@ -1,9 +1,0 @@
--- A text of ASCII letters as the list of its bytes. Assumes nothing.
-use Prim.Native.Nat.{ℕ}
-use Prim.Native.Char.{code}
-use Prim.Native.String.{String, [], _∷_}
-use mathlib.Core.List as List
-
-abbrev pub ascii : String → List.List ℕ
-ascii [] = List.[]
-ascii (c ∷ s) = List._∷_ (code c) (ascii s)
