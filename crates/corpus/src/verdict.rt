@@ -22,9 +22,7 @@ pub fn verdict(sheet: &[u8]) {
 }
 
 pub fn goal(sheet: &[u8]) {
-    let reading = reader::read(sheet);
-    let refusal = reading.refusal;
-    let k = reader::number(refusal);
+    let k = lockgraph::refusal(sheet);
     io::write_all(1, b"goal:");
     if k == 0 {
         io::write_all(1, b" ");

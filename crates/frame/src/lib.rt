@@ -121,7 +121,7 @@ fn nothing(k: u8) -> Setup
 pub fn set_up(s: &[u8]) -> Setup
     ensures { λ r. ⌜ SetUp (now (s .entry)) r ⌝ }
 {
-    let reading = reader::read(s);
+    let reading = limits::read(s);
     let refusal = reading.refusal;
     let k = reader::number(refusal);
     if k != 0 {

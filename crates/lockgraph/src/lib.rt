@@ -28,7 +28,7 @@ pub use verdicts::verdict;
 pub fn refusal(sheet: &[u8]) -> u8
     ensures { λ r. ⌜ r ≡ refusalOf (now (sheet .entry)) ⌝ }
 {
-    reader::refusal_of(sheet)
+    limits::refusal_of(sheet)
 }
 
 // The goal's text: a part of the sheet itself, empty exactly with a refusal, whose number is `refusal`.
@@ -37,5 +37,5 @@ pub fn goal_text(sheet: &[u8]) -> &[u8]
     ensures { λ r. ⌜ (r .ptr .0 ≡ sheet .entry .ptr .0) × (r .ptr .1 ≡ sheet .entry .ptr .1 + goalStart (now (sheet .entry)) (refusalOf (now (sheet .entry)))) ⌝ }
     ensures { λ r. ⌜ (now r ≡ []) ↔ (refusalOf (now (sheet .entry)) ≡ 0 → ⊥) ⌝ }
 {
-    reader::goal_text(sheet)
+    limits::goal_text(sheet)
 }

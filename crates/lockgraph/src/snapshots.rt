@@ -9,7 +9,7 @@ pub fn snapshot(sheet: &[u8], text: &[u8], row: &mut [u8]) -> SnapshotAnswer
     ensures { λ o. ⌜ SnapshotIs (now (sheet .entry)) (now (text .entry)) (now (row .entry)) o (now (row .exit)) ⌝ }
     ensures { λ o. ⌜ SnapshotMeans (now (sheet .entry)) (now (text .entry)) o (now (row .exit)) ⌝ }
 {
-    let reading = reader::read(sheet);
+    let reading = limits::read(sheet);
     let refusal = reading.refusal;
     let k = reader::number(refusal);
     if k != 0 {

@@ -116,9 +116,7 @@ pub extern "C" fn lockgraph_snapshot(
 pub extern "C" fn lockgraph_goal(sheet: &[u8], out: &mut [u64; 2]) -> u8
     ensures { λ k. ⌜ GoalTold (now (sheet .entry)) (now (out .entry)) k (now (out .exit)) ⌝ }
 {
-    let reading = reader::read(sheet);
-    let refusal = reading.refusal;
-    let k = reader::number(refusal);
+    let k = lockgraph::refusal(sheet);
     if 0 < k {
         return k;
     }

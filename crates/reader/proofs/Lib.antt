@@ -2,4 +2,3 @@ pub mod NumberLaws
 pub mod ReadLaws
 pub mod Examples
 pub mod MemberPrints
-pub mod GoalText

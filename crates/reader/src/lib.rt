@@ -1,12 +1,9 @@
-// Reading a sheet: from its bytes to symbols, kinds, formulas, closure and lean, or to one refusal.
+// Reading a sheet within given limits: from its bytes to symbols, kinds, formulas, closure and lean, or to one refusal.
 ghost use mathlib.Core.Path.{_≡_};
 ghost use mathlib.Core.Bool.{true};
-ghost use mathlib.Core.Logic.{_↔_};
-ghost use mathlib.Core.List.{[]};
 ghost use Prim.Native.Nat.{ℕ, _+_, _-_, _≤_, _<_};
 ghost use lib.ListN.{length, getD};
-ghost use Rattle.sheet.specs.Sheet.{goalUnder, goalStart};
-ghost use Rattle.reader.specs.Reader.{refusalBy, numberOf, refusalOf, blank, RootsAre, ReadIs};
+ghost use Rattle.reader.specs.Reader.{refusalBy, numberOf, blank, RootsAre, ReadIs};
 use closure::Closed;
 use lean::Gathered;
 
@@ -145,7 +142,7 @@ fn read_in(s: &[u8], most: usize, wide: usize, nodes: &mut [u64]) -> Reading
 }
 
 // The sheet, within those limits. Most sheets are short, and clearing a large store would cost more than reading them.
-fn read_within(s: &[u8], most: usize, wide: usize) -> Reading
+pub fn read_within(s: &[u8], most: usize, wide: usize) -> Reading
     requires { ⌜ (most ≤ 128) × (wide ≤ 12) ⌝ }
     ensures { λ r. ⌜ ReadIs most wide (now (s .entry)) r ⌝ }
 {
@@ -155,31 +152,6 @@ fn read_within(s: &[u8], most: usize, wide: usize) -> Reading
     }
     let mut nodes = [0u64; 1024];
     read_in(s, most, wide, &mut nodes)
-}
-
-// Every sheet, under document 01's limits.
-pub fn read(s: &[u8]) -> Reading
-    ensures { λ r. ⌜ ReadIs 64 8 (now (s .entry)) r ⌝ }
-{
-    read_within(s, 64, 8)
-}
-
-// The number of the refusal, 0 for a sheet that is accepted.
-pub fn refusal_of(s: &[u8]) -> u8
-    ensures { λ r. ⌜ r ≡ refusalOf (now (s .entry)) ⌝ }
-{
-    let r = read(s);
-    let refusal = r.refusal;
-    number(refusal)
-}
-
-// The goal's text: a part of the sheet itself, empty exactly with a refusal.
-pub fn goal_text(s: &[u8]) -> &[u8]
-    ensures { λ r. ⌜ now r ≡ goalUnder (now (s .entry)) (refusalOf (now (s .entry))) ⌝ }
-    ensures { λ r. ⌜ (r .ptr .0 ≡ s .entry .ptr .0) × (r .ptr .1 ≡ s .entry .ptr .1 + goalStart (now (s .entry)) (refusalOf (now (s .entry)))) ⌝ }
-    ensures { λ r. ⌜ (now r ≡ []) ↔ (refusalOf (now (s .entry)) ≡ 0 → ⊥) ⌝ }
-{
-    sheet::goal_part(s, refusal_of(s))
 }
 
 // Document 01's number.

@@ -1,22 +1,16 @@
 -- `lockgraph_goal` meets its contract. Assumes nothing.
-use mathlib.Core.Path.{_∙_}
 use native.Mathlib.Omega.{arith}
 use Rattle.lockgraph_c.proofs.ToldLaws.{goal-none, goal-there}
 use borrow.Author.Needs.{needs}
 use Rattle.lockgraph_c.proofs.lockgraph_goal.Statement.{statement}
 use Rattle.lockgraph_c.proofs.lockgraph_goal.Tie as tie
 
-read-requires : tie.Need-read-requires
-read-requires c κs = search needs
-
-number-requires : tie.Need-number-requires
-number-requires c κs = search needs
+refusal-requires : tie.Need-refusal-requires
+refusal-requires c κs = search needs
 
 returns : tie.Need-returns
 returns c =
-    let b1 = c .before in
-    let b2 = b1 .before in
-    goal-none _ (b1 .number .ensures ∙ b2 .read .ensures .is) (λ z. omega (arith, z, c .if1 .taken))
+    goal-none _ (c .before .refusal .ensures) (λ z. omega (arith, z, c .if1 .taken))
 
 third-line-requires : tie.Need-third-line-requires
 third-line-requires c κs = search needs
@@ -33,15 +27,13 @@ returns-2 c =
     let b3 = b2 .before in
     let b4 = b3 .before in
     let b5 = b4 .before in
-    let b6 = b5 .before in
-    goal-there _ _ _ (b5 .number .ensures ∙ b6 .read .ensures .is) (omega (arith, b4 .if1 .left)) (b3 .third-line .ensures .1) (b2 .last-text .ensures)
+    goal-there _ _ _ (b5 .refusal .ensures) (omega (arith, b4 .if1 .left)) (b3 .third-line .ensures .1) (b2 .last-text .ensures)
 
 pub lockgraph-goal-spec : {M : Type 1} → statement M
 lockgraph-goal-spec =
     tie.close
     (tie.spec
-    read-requires
-    number-requires
+    refusal-requires
     returns
     third-line-requires
     last-text-requires

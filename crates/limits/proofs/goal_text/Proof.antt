@@ -1,12 +1,12 @@
--- `reader::goal_text` meets its contract. Assumes nothing.
+-- `goal_text` meets its contract. Assumes nothing.
 use mathlib.Core.Path.{sym, ap, _∙_}
 use Prim.Native.Nat.{_+_}
 use Rattle.sheet.specs.Sheet.{goalUnder, goalStart}
 use Rattle.reader.proofs.ReadLaws.{layout-within}
-use Rattle.reader.proofs.GoalText.{goal-text-empty-iff}
+use Rattle.limits.proofs.GoalText.{goal-text-empty-iff}
 use borrow.Author.Needs.{needs}
-use Rattle.reader.proofs.goal_text.Statement.{statement}
-use Rattle.reader.proofs.goal_text.Tie as tie
+use Rattle.limits.proofs.goal_text.Statement.{statement}
+use Rattle.limits.proofs.goal_text.Tie as tie
 
 refusal-of-requires : tie.Need-refusal-of-requires
 refusal-of-requires c κs = search needs
