@@ -5,14 +5,15 @@
 //! it, with `out` for a further store. The calls come in blocks, and a block is the same for the same seed and number.
 
 mod calls;
+mod rules;
 mod second;
 mod seen;
 mod sheets;
 mod stores;
 mod told;
 
+use rules::rules;
 use second_checker::generate::Chance;
-use second_checker::rules::Rules;
 use seen::Seen;
 use sheets::Sheet;
 use std::sync::atomic::{AtomicU64, Ordering};
@@ -28,12 +29,6 @@ const THREADS: usize = 2;
 const STACK: usize = 8 << 20;
 /// So many calls that differ are kept by each thread; all are counted.
 const KEPT: usize = 10;
-
-/// The rules in force for the second checker: those of document 01 and of the requests that have landed.
-pub fn rules() -> Rules {
-    let level = include_str!("../../../second_checker/LEVEL");
-    Rules::at(level.trim().parse().expect("a level"))
-}
 
 /// What came of calls.
 #[derive(Default)]

@@ -1,0 +1,286 @@
+//! What docs/SHEETS.md says of its sheets and snapshots is what the proved library and the second checker say of them.
+//!
+//! Read are the guide's tables, its list of typing errors, and its comments, which nobody sees in the rendered text: `<!-- ANSWER -->` above the block of a sheet or a
+//! snapshot, and `<!-- ANSWER: LINE / LINE / .. -->`, or a sheet's file, where the prose has a sheet without a block. An answer is `open 0 8`, `open`, `unsatisfiable`,
+//! `refused 6`, `accepted` (not refused), or of a snapshot `row 3 2`. Each block with a sheet has to have one.
+
+#[path = "compare/rules.rs"]
+mod rules;
+
+use rules::rules;
+use std::fs;
+use std::path::Path;
+
+const GUIDE: &str = "docs/SHEETS.md";
+/// The guide's sheet of most snapshots, and the one with a name.
+const DRAWN: &str = "k f\nmark field\ngoal EX{f}k\n";
+const NAMED: &str = "v f\nname field\ngoal 1\n";
+/// Lines 1 and 2 of the formulas and the typing errors.
+const LETTERS: &str = "c t w h\nmark mark field field\n";
+/// In the list of typing errors, what was meant begins at this column.
+const MEANT: usize = 37;
+
+#[derive(Clone)]
+/// A sheet, or a snapshot under it with the length of a row, and what the guide says of it.
+struct Claim {
+    line: usize,
+    sheet: String,
+    snapshot: Option<(String, usize)>,
+    answer: String,
+}
+
+#[test]
+fn sheets_are_answered_as_the_guide_says() {
+    let claims = claims(&read(GUIDE));
+    for claim in &claims {
+        let (proved, second) = (proved(claim), second(claim));
+        let Claim {
+            line,
+            sheet,
+            answer,
+            ..
+        } = claim;
+        assert_eq!(proved, second, "line {line}: {sheet}");
+        assert!(
+            says(answer, &proved),
+            "line {line}: {proved}, not {answer}: {sheet}"
+        );
+    }
+    for number in (1..=10).chain(13..=16) {
+        let refused = format!("refused {number}");
+        assert!(
+            claims.iter().any(|claim| claim.answer == refused),
+            "no example of {refused}"
+        );
+    }
+}
+
+/// The claim is what was answered, or its beginning.
+fn says(claim: &str, answer: &str) -> bool {
+    match claim {
+        "accepted" => !answer.starts_with("refused"),
+        "open" => answer.starts_with("open "),
+        _ => claim == answer,
+    }
+}
+
+fn proved(claim: &Claim) -> String {
+    let sheet = claim.sheet.as_bytes();
+    let answer = match &claim.snapshot {
+        Some((text, length)) => {
+            lockgraph::snapshot(sheet, text.as_bytes(), &mut vec![0; *length]).map(row)
+        }
+        None => lockgraph::verdict(sheet).map(|verdict| match verdict {
+            lockgraph::Verdict::Open {
+                naming,
+                type_number,
+            } => format!("open {naming} {type_number}"),
+            lockgraph::Verdict::Unsatisfiable => "unsatisfiable".to_string(),
+        }),
+    };
+    answer.unwrap_or_else(|refusal| format!("refused {}", refusal.number()))
+}
+
+fn second(claim: &Claim) -> String {
+    let sheet = claim.sheet.as_bytes();
+    let answer = match &claim.snapshot {
+        Some((text, length)) => {
+            let mut bytes = vec![0; *length];
+            second_checker::snapshot(rules(), sheet, text.as_bytes(), &mut bytes)
+                .map(|nodes| row(&bytes[..nodes]))
+        }
+        None => second_checker::verdict(rules(), sheet, 1).map(|verdict| match verdict {
+            second_checker::Verdict::Open { naming, type_ } => format!("open {naming} {type_}"),
+            second_checker::Verdict::Unsatisfiable => "unsatisfiable".to_string(),
+        }),
+    };
+    answer.unwrap_or_else(|number| format!("refused {number}"))
+}
+
+fn row(bytes: &[u8]) -> String {
+    bytes
+        .iter()
+        .fold("row".to_string(), |row, byte| format!("{row} {byte}"))
+}
+
+/// All that the guide claims.
+fn claims(guide: &str) -> Vec<Claim> {
+    let lines: Vec<&str> = guide.lines().collect();
+    let (mut claims, mut heading, mut comment) = (vec![], "", None);
+    let mut at = 0;
+    while at < lines.len() {
+        let line = lines[at];
+        if line.starts_with("```") {
+            let long = lines[at + 1..]
+                .iter()
+                .position(|line| line.starts_with("```"))
+                .expect("the block ends");
+            let block = &lines[at + 1..at + 1 + long];
+            claims.extend(of_block(at + 1, block, comment.take()));
+            at += long + 1;
+        } else if let Some(said) = commented(line) {
+            comment = said
+                .rsplit_once(": ")
+                .map_or(Some((said, None)), |(answer, sheet)| {
+                    if lines[at + 1].starts_with("```") {
+                        return Some((answer, Some(sheet)));
+                    }
+                    claims.push(verdict(at, slashed(sheet), answer));
+                    None
+                });
+        } else if !line.starts_with('|') {
+            assert!(
+                comment.is_none() || line.is_empty(),
+                "line {at}: no block for the answer above"
+            );
+        } else if line.ends_with("---|") {
+            heading = lines[at - 1];
+        } else if !lines[at + 1].ends_with("---|") {
+            claims.extend(of_row(at, heading, line));
+        }
+        at += 1;
+    }
+    claims
+}
+
+fn verdict(at: usize, sheet: String, answer: &str) -> Claim {
+    Claim {
+        line: at + 1,
+        sheet,
+        snapshot: None,
+        answer: answer.to_string(),
+    }
+}
+
+fn commented(line: &str) -> Option<&str> {
+    line.strip_prefix("<!-- ")?.strip_suffix(" -->")
+}
+
+/// A block: a sheet, a snapshot, a case for the corpus program, or the list of typing errors. Any other claims nothing.
+fn of_block(at: usize, block: &[&str], said: Option<(&str, Option<&str>)>) -> Vec<Claim> {
+    let text: String = block.iter().map(|line| format!("{line}\n")).collect();
+    if block.last().is_some_and(|line| line.starts_with("goal ")) {
+        let (answer, file) = said.unwrap_or_else(|| panic!("line {at}: no answer above the sheet"));
+        assert!(
+            file.is_none_or(|file| read(file) == text),
+            "line {at}: not what the file has"
+        );
+        return vec![verdict(at, text, answer)];
+    }
+    if block[0].starts_with("AG c ") {
+        return block
+            .iter()
+            .enumerate()
+            .flat_map(|(below, line)| typing_errors(at + below, line))
+            .collect();
+    }
+    let Some((answer, file)) = said else {
+        return vec![];
+    };
+    let (sheet, snapshot) = match file {
+        Some(file) => (read(file), text),
+        None => (
+            unescaped(after(block, "sheet ")),
+            unescaped(after(block, "snapshot 16 ")),
+        ),
+    };
+    vec![Claim {
+        snapshot: Some((snapshot, 16)),
+        ..verdict(at, sheet, answer)
+    }]
+}
+
+/// The rest of the line that begins so.
+fn after<'a>(block: &[&'a str], start: &str) -> &'a str {
+    block
+        .iter()
+        .find_map(|line| line.strip_prefix(start))
+        .expect("a line that begins so")
+}
+
+fn typing_errors(at: usize, line: &str) -> Vec<Claim> {
+    let (wrong, meant) = line.split_at(MEANT);
+    let each = |formulas: &str, answer: &str| -> Vec<Claim> {
+        let formulas = formulas
+            .split("  ")
+            .map(str::trim)
+            .filter(|formula| !formula.is_empty());
+        formulas
+            .map(|formula| verdict(at, format!("{LETTERS}goal {formula}\n"), answer))
+            .collect()
+    };
+    [each(wrong, "refused 6"), each(meant, "accepted")].concat()
+}
+
+/// A row of the tables of formulas, of refusals and of changes. Any other claims nothing.
+fn of_row(at: usize, heading: &str, row: &str) -> Vec<Claim> {
+    let cells: Vec<&str> = row.trim_matches('|').split(" | ").map(str::trim).collect();
+    if heading.starts_with("| written |") {
+        let formulas = spans(cells[0]);
+        return formulas
+            .iter()
+            .map(|formula| verdict(at, format!("{LETTERS}goal {formula}\n"), "accepted"))
+            .collect();
+    }
+    if heading.starts_with("| change |") {
+        return vec![
+            verdict(at, typed(cells[1]), "open"),
+            verdict(at, typed(cells[2]), "unsatisfiable"),
+        ];
+    }
+    let refused = format!("refused {}", cells[0]);
+    if heading.starts_with("| N | smallest sheet |") {
+        return vec![verdict(at, typed(cells[1]), &refused)];
+    }
+    if heading.starts_with("| N | smallest snapshot |") {
+        let (text, length) = (
+            typed(cells[1]),
+            if cells[1].ends_with("a row of 1 byte") {
+                1
+            } else {
+                16
+            },
+        );
+        let sheet = if text.starts_with("v f\n") {
+            NAMED
+        } else {
+            DRAWN
+        };
+        return vec![Claim {
+            snapshot: Some((text, length)),
+            ..verdict(at, sheet.to_string(), &refused)
+        }];
+    }
+    vec![]
+}
+
+/// What stands between backquotes.
+fn spans(cell: &str) -> Vec<&str> {
+    cell.split('`').skip(1).step_by(2).collect()
+}
+
+/// A cell's lines, or the bytes that its `printf` prints.
+fn typed(cell: &str) -> String {
+    let spans = spans(cell);
+    match spans[0].strip_prefix("printf '") {
+        Some(bytes) => unescaped(bytes.trim_end_matches('\'')),
+        None => spans.iter().map(|line| format!("{line}\n")).collect(),
+    }
+}
+
+fn unescaped(text: &str) -> String {
+    text.replace("\\n", "\n").replace("\\t", "\t")
+}
+
+/// A sheet by its lines, or by its file.
+fn slashed(sheet: &str) -> String {
+    if sheet.ends_with(".sheet") {
+        return read(sheet);
+    }
+    sheet.split(" / ").map(|line| format!("{line}\n")).collect()
+}
+
+fn read(file: &str) -> String {
+    let path = Path::new(env!("CARGO_MANIFEST_DIR")).join("..").join(file);
+    fs::read_to_string(&path).unwrap_or_else(|error| panic!("{file}: {error}"))
+}
