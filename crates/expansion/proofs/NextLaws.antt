@@ -2,16 +2,9 @@
 use mathlib.Core.Path.{_≡_, refl, sym, ap, _∙_, subst}
 use mathlib.Core.Bool.{Bool, true, false}
 use mathlib.Core.List.{List, [], _∷_, map}
-use Prim.Native.Nat.{ℕ, zero, suc, _+_, _-_, _*_, _/_, _%_, _^_, _≤_, _<_}
+use Prim.Native.Nat.{ℕ, _^_, _<_}
 use native.Mathlib.Omega.{arith}
-use native.Mathlib.Nat.{pow-succ', one-mul}
-use native.Mathlib.Decide.{decLe}
-use lib.Dec.{eqb, lit<}
-use lib.Pow.{shr-shr, shl-exact, pow-lt}
-use borrow.Author.Tests.{eq-eqb, ne-eqb}
-use Rattle.ctl.specs.Lists.{put, keep, countFrom}
 use Rattle.ctl.specs.Formula.{Form, ex, ax}
-use Rattle.ctl.specs.Modes.{hasMode, modes}
 use Rattle.ctl.specs.Closure.{orSpine, andSpine, exSpine, axSpine}
 use Rattle.members.specs.Grown.{Ready, Answer}
 use Rattle.members.specs.declared.Added.{Added}
@@ -19,7 +12,7 @@ use Rattle.members.proofs.StepLaws.{answer-is}
 use Rattle.members.specs.Members.{formBy, Canon, c-tru, c-fls, c-and, c-or, c-ex, c-ax, wordOf}
 use Rattle.members.proofs.ModeListLaws.{modes-from}
 use Rattle.expansion.specs.Operators.{eachOf, joinAll, joinForm, joinSpine, joinTag, nextForm, nextSpine, nextTag, unitForm, unitTag}
-use Rattle.members.specs.ModeLists.{modesAt, modesFrom}
+use Rattle.members.specs.ModeLists.{modesFrom}
 
 -- ---- laws
 

@@ -1,9 +1,7 @@
 -- Operators in dual pairs, told apart by a Boolean, with their expansions: one definition, one function of the code and one law for both. Assumes nothing.
 use mathlib.Core.Bool.{Bool, true, false, not}
 use mathlib.Core.List.{List, [], _∷_, _++_, map}
-use Prim.Native.Nat.{ℕ, zero, suc, _-_, _/_, _%_, _^_}
-use lib.Dec.{eqb}
-use Rattle.ctl.specs.Lists.{put}
+use Prim.Native.Nat.{ℕ, _^_}
 use Rattle.ctl.specs.Formula.{Form, tru, fls, and, or, ex, ax, eu, au, er, ar, lit, nlit}
 use Rattle.ctl.specs.Expansion.{orAll, andAll}
 use Rattle.ctl.specs.Closure.{orSpine, andSpine, exSpine, axSpine}

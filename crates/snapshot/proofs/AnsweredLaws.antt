@@ -8,7 +8,6 @@ use mathlib.Core.List.{List}
 use lib.Dec.{eqb, leb}
 use lib.ListN.{length, getD, replicate}
 use borrow.Author.Tests.{eqb-true, eq-eqb, leb-true, leb-false, le-leb, lt-ltb, ne-eqb}
-use Rattle.wordset.specs.Below.{countBelow}
 use Rattle.wordset.proofs.BelowLaws.{lt-or-le, all-elim, any-false}
 use Rattle.ctl.specs.Snapshot.{entry, ofLines, NamesSingle}
 use Rattle.ctl.proofs.BoolLaws.{true-T, T-true, and-both, true-and-false}

@@ -2,20 +2,18 @@
 use mathlib.Core.Path.{_≡_, sym, ap, ap₂, _∙_}
 use mathlib.Core.Bool.{Bool, _&&_, _||_, not, Bool·beq}
 use mathlib.Core.List.{List}
-use Prim.Native.Nat.{ℕ, _+_, _-_, _*_, _/_, _%_, _^_, _<_}
-use native.Mathlib.Nat.{mod-lt}
-use native.Mathlib.Omega.{arith}
+use Prim.Native.Nat.{ℕ, _+_, _-_, _*_, _^_, _<_}
 use lib.Bits.{bitAnd, bitOr, and-lt, or-lt}
 use lib.Dec.{eqb}
 use lib.ListN.{getD}
-use lib.Pow.{pow-pos, ones-sub-lt}
+use lib.Pow.{ones-sub-lt}
 use borrow.Author.Tests.{eq-eqb, eqb-true}
 use Rattle.wordset.specs.Answers.{Answers}
 use Rattle.wordset.specs.Below.{allBelow}
 use Rattle.wordset.specs.Word.{bit}
 use Rattle.wordset.specs.Words.{member}
 use Rattle.wordset.proofs.BelowLaws.{all-intro, all-elim}
-use Rattle.wordset.proofs.BitLaws.{bit-and, bit-or, bit-minus, bit-pow, shl-one, bit-ext, wordOf-is}
+use Rattle.wordset.proofs.BitLaws.{bit-and, bit-or, bit-minus, bit-ext, wordOf-is}
 use Rattle.wordset.proofs.CompareLaws.{beq-true, beq-refl, both-ways}
 use Rattle.wordset.proofs.WordLaws.{member-at}
 use Rattle.wordset.proofs.PackLaws.{packWord}

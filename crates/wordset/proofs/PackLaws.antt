@@ -4,18 +4,15 @@ use mathlib.Core.Path.{_≡_, refl, sym, ap, ap₂, _∙_}
 use mathlib.Core.Bool.{Bool, Bool·beq}
 use mathlib.Core.List.{List}
 use mathlib.Core.Logic.{⊎-elim}
-use Prim.Native.Nat.{ℕ, zero, suc, _+_, _-_, _*_, _/_, _%_, _^_, _≤_, _<_}
-use native.Mathlib.Nat.{mod-lt}
+use Prim.Native.Nat.{ℕ, zero, suc, _+_, _-_, _*_, _^_, _≤_, _<_}
 use native.Mathlib.Omega.{arith}
-use lib.Dec.{eqb}
 use lib.ListN.{length, getD, set, drop}
-use lib.Pow.{pow-pos, split, shr-shr}
 use lib.Seq.{ext-getD, getD-drop, set-getD}
-use Rattle.wordset.specs.Below.{allBelow, countBelow}
-use Rattle.wordset.specs.Word.{digit, bit, wordOf}
+use Rattle.wordset.specs.Below.{allBelow}
+use Rattle.wordset.specs.Word.{wordOf}
 use Rattle.wordset.specs.Words.{member, filled, packed}
-use Rattle.wordset.proofs.BelowLaws.{lt-or-le, all-ext, count-ext}
-use Rattle.wordset.proofs.BitLaws.{digit-low, bit-wordOf, wordOf-lt}
+use Rattle.wordset.proofs.BelowLaws.{lt-or-le, all-ext}
+use Rattle.wordset.proofs.BitLaws.{bit-wordOf, wordOf-lt}
 use Rattle.wordset.proofs.WordLaws.{length-filled, drop-filled, filled-at, filled-past, member-at, packed-is, member-packed}
 
 -- word i of a packed set
