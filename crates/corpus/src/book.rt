@@ -1,12 +1,11 @@
 // The outcome of Book: how many words were written, and their sum.
 use corpus_text::number::at_most;
-use corpus_text::outcome::write_count;
 use corpus_text::outcome::write_end;
 use corpus_text::outcome::write_operation;
 use corpus_text::outcome::write_refused;
-use corpus_text::outcome::write_words;
 use corpus_text::store::fill_words;
 use corpus_text::store::words_kept;
+use corpus_text::sums::write_book;
 use lockgraph::BookAnswer;
 
 // No store has room for so many namings, or for tables of so many words.
@@ -23,38 +22,6 @@ fn words_of(namings: u64, words: usize) -> usize {
     namings as usize * words
 }
 
-// The sum of the running sums, both modulo 2^64: it tells other words and another order apart.
-fn sum(words: &[u64]) -> u64 {
-    let mut running: u64 = 0;
-    let mut total: u64 = 0;
-    let mut i = 0;
-    while i < words.len() {
-        running = std::num::wrapping_add_u64(running, words[i]);
-        total = std::num::wrapping_add_u64(total, running);
-        i += 1;
-    }
-    total
-}
-
-fn write_book(words: &[u64]) {
-    io::write_all(1, b" words sum ");
-    io::print_hex(1, sum(words), 16);
-    if words.len() <= 16 {
-        write_words(words);
-    }
-}
-
-// The book of the store's first n words; a store that has not so many is disturbed.
-fn write_done(store: &[u64], n: usize) {
-    write_count(b" ", n);
-    if n <= store.len() {
-        write_book(&store[0..n]);
-        write_end(words_kept(store, n));
-        return;
-    }
-    write_end(false);
-}
-
 // Book with the store given.
 fn book_with(sheet: &[u8], store: &mut [u64]) {
     fill_words(store);
@@ -64,7 +31,7 @@ fn book_with(sheet: &[u8], store: &mut [u64]) {
             write_refused(k);
             write_end(words_kept(store, 0));
         }
-        BookAnswer::Done { namings, words } => write_done(store, words_of(namings, words)),
+        BookAnswer::Done { namings, words } => write_book(store, words_of(namings, words)),
     }
 }
 

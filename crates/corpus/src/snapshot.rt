@@ -1,32 +1,13 @@
 // The outcome of Snapshot: a byte of the row for each node.
 use corpus_text::number::at_most;
-use corpus_text::number::wide;
 use corpus_text::outcome::write_end;
 use corpus_text::outcome::write_operation;
 use corpus_text::outcome::write_refused;
+use corpus_text::rows::write_row;
 use corpus_text::store::bytes_kept;
 use corpus_text::store::fill_bytes;
 use corpus_text::text::unescape;
 use lockgraph::SnapshotAnswer;
-
-fn write_bytes(row: &[u8]) {
-    let mut i = 0;
-    while i < row.len() {
-        io::write_all(1, b" ");
-        io::print_decimal(1, wide(row[i]));
-        i += 1;
-    }
-}
-
-// The row's first n bytes; a row that has not so many is disturbed.
-fn write_done(row: &[u8], n: usize) {
-    if n <= row.len() {
-        write_bytes(&row[0..n]);
-        write_end(bytes_kept(row, n));
-        return;
-    }
-    write_end(false);
-}
 
 // Snapshot with the row given.
 fn snapshot_with(sheet: &[u8], text: &[u8], row: &mut [u8]) {
@@ -37,7 +18,7 @@ fn snapshot_with(sheet: &[u8], text: &[u8], row: &mut [u8]) {
             write_refused(k);
             write_end(bytes_kept(row, 0));
         }
-        SnapshotAnswer::Done { nodes } => write_done(row, nodes),
+        SnapshotAnswer::Done { nodes } => write_row(row, nodes),
     }
 }
 

@@ -1,5 +1,3 @@
-pub mod NodeLaws
-pub mod EdgeLaws
 pub mod OperatorLaws
 pub mod SatLaws
 pub mod RowLaws

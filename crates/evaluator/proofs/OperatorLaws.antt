@@ -21,9 +21,10 @@ use Rattle.ctl.proofs.Fixpoint.{after, after-suc, after-zero}
 use Rattle.ctl.proofs.ListLaws.{any-find, any-make, any-same, below-out}
 use Rattle.ctl.proofs.NextLaws.{eachNext-same, not-someNext, someNext-same}
 use Rattle.snapshot_text.specs.Store.{ofStore}
-use Rattle.evaluator.specs.Nodes.{auRound, edgeWords, euRound, flipWord, fullWord, leadsAt, nextWord, preWord, repeat}
-use Rattle.evaluator.proofs.EdgeLaws.{leads-same}
-use Rattle.evaluator.proofs.NodeLaws.{bit-flip, bit-full}
+use Rattle.edges.specs.Nodes.{edgeWords, flipWord, fullWord, leadsAt, nextWord, repeat}
+use Rattle.evaluator.specs.Values.{auRound, euRound, preWord}
+use Rattle.edges.proofs.EdgeLaws.{leads-same}
+use Rattle.edges.proofs.NodeLaws.{bit-flip, bit-full}
 
 -- a set of numbers below n is not 0 exactly if it has one
 not-zero : (n w : ℕ) → w < 2 ^ n → not (eqb w 0) ≡ anyOf (bit w) (below n)

@@ -20,7 +20,8 @@ use Rattle.ctl.specs.Evaluator.{sat}
 use Rattle.truth.specs.Tables.{form}
 use Rattle.truth.proofs.ListWords.{all-list}
 use Rattle.snapshot_text.specs.Store.{ofStore}
-use Rattle.evaluator.specs.Nodes.{allWord, cellBy, fullWord}
+use Rattle.edges.specs.Nodes.{fullWord}
+use Rattle.evaluator.specs.Values.{allWord, cellBy}
 use Rattle.evaluator.specs.Rows.{cellOf, rowOf}
 use Rattle.evaluator.proofs.RowMeaning.{row-at, row-length}
 

@@ -23,8 +23,9 @@ use Rattle.members.specs.Members.{argW, formBy, tagW}
 use Rattle.truth.specs.Tables.{Table, argAt, form, leftAt, rightAt, tagAt}
 use Rattle.truth.proofs.MemberLaws.{form-at}
 use Rattle.snapshot_text.specs.Store.{entryAt, ofStore}
-use Rattle.evaluator.specs.Nodes.{auWord, edgeWords, euWord, flipWord, fullWord, memberBy, memberWord, modalWord, nextWord, onWord, plainWord, preWord}
-use Rattle.evaluator.proofs.NodeLaws.{bit-flip, flip-lt}
+use Rattle.edges.specs.Nodes.{edgeWords, flipWord, fullWord, nextWord, onWord}
+use Rattle.evaluator.specs.Values.{auWord, euWord, memberBy, memberWord, modalWord, plainWord, preWord}
+use Rattle.edges.proofs.NodeLaws.{bit-flip, flip-lt}
 use Rattle.evaluator.proofs.OperatorLaws.{au-at, au-lt, each-at, eu-at, eu-lt, pre-at, pre-lt}
 
 -- ---- a member by its word, below tag 6 and from there on

@@ -1,14 +1,12 @@
 // The row of a snapshot: at which nodes the goal and the globals hold. Every closure member is evaluated once, as a word of nodes. Throughout,
 // out is the store of a snapshot with n nodes and ws the table of closure members. Assumes nothing.
-mod edges;
-mod nodes;
 mod operators;
 mod values;
 
-use crate::nodes::full;
-use crate::nodes::has;
-use crate::nodes::set_at;
 use crate::values::evaluate;
+use edges::nodes::full;
+use edges::nodes::has;
+use edges::nodes::set_at;
 ghost use mathlib.Core.Path.{_≡_};
 ghost use mathlib.Core.Bool.{cond};
 ghost use mathlib.Core.List.{_++_, map};
@@ -17,7 +15,7 @@ ghost use lib.ListN.{drop, getD, length};
 ghost use Rattle.wordset.specs.Words.{filled};
 ghost use Rattle.truth.specs.Tables.{Table, form};
 ghost use Rattle.snapshot_text.specs.Store.{ofStore};
-ghost use Rattle.evaluator.specs.Nodes.{allWord, cellBy};
+ghost use Rattle.evaluator.specs.Values.{allWord, cellBy};
 ghost use Rattle.evaluator.specs.Rows.{rowOf};
 
 // The nodes at which each of these members holds.

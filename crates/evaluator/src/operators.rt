@@ -1,11 +1,11 @@
 // The operators with modes on sets of nodes. Throughout, e holds for each of the n nodes the nodes that its modes lead to. Assumes nothing.
-use crate::nodes::add_if;
-use crate::nodes::flip;
-use crate::nodes::full;
+use edges::nodes::add_if;
+use edges::nodes::flip;
+use edges::nodes::full;
 ghost use mathlib.Core.Path.{_≡_};
 ghost use Prim.Native.Nat.{_≤_};
 ghost use lib.ListN.{length};
-ghost use Rattle.evaluator.specs.Nodes.{auWord, euWord, modalWord, preWord};
+ghost use Rattle.evaluator.specs.Values.{auWord, euWord, modalWord, preWord};
 
 // The nodes from which some mode leads to a node of x.
 fn pre(e: &[u64], n: usize, x: u64) -> u64

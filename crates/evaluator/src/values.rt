@@ -1,10 +1,10 @@
 // The nodes at which each member of a table holds. Assumes nothing.
-use crate::edges::edge_words;
-use crate::edges::on;
-use crate::nodes::flip;
-use crate::nodes::full;
-use crate::nodes::set_at;
 use crate::operators::modal;
+use edges::edge_words;
+use edges::nodes::flip;
+use edges::nodes::full;
+use edges::nodes::set_at;
+use edges::on;
 use members::parts::arg;
 use members::parts::left;
 use members::parts::right;
@@ -17,7 +17,7 @@ ghost use Rattle.wordset.specs.Words.{filled};
 ghost use Rattle.ctl.specs.Evaluator.{sat};
 ghost use Rattle.truth.specs.Tables.{Table, form};
 ghost use Rattle.snapshot_text.specs.Store.{ofStore};
-ghost use Rattle.evaluator.specs.Nodes.{memberWord, plainWord};
+ghost use Rattle.evaluator.specs.Values.{memberWord, plainWord};
 
 // A member without modes, from its tag, its symbol k and its operands' nodes.
 fn plain(out: &[u8], n: usize, tag: u64, k: usize, p: u64, q: u64) -> u64

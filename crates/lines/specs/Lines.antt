@@ -42,3 +42,8 @@ verdictLine unsatisfiable newline = ascii "unsatisfiable - -" ++ newline
 unfoldable pub refusedLine : ℕ → List ℕ → List ℕ
 unfolding decimal
 refusedLine k newline = ascii "refused " ++ decimal k ++ newline
+
+-- lines, one after the other
+abbrev pub joined : List (List ℕ) → List ℕ
+joined [] = []
+joined (l ∷ ls) = l ++ joined ls

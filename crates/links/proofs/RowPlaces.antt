@@ -14,8 +14,8 @@ use borrow.Rule.Slice.PartMut.{putMid}
 use Rattle.wordset.proofs.BelowLaws.{count-add, top}
 use Rattle.wordset.specs.Below.{countBelow, one}
 use Rattle.wordset.specs.Word.{bit}
-use Rattle.truth.specs.Blocks.{has}
-use Rattle.links.specs.Links.{Lk, Rows, asked, linkRoom, rowsOf}
+use Rattle.truth.specs.Blocks.{has, rowsOf}
+use Rattle.links.specs.Links.{Lk, Rows, asked, linkRoom}
 use Rattle.truth.proofs.BlockLaws.{block-in, tail}
 use Rattle.links.proofs.Narrowing.{word-of}
 

@@ -4,15 +4,14 @@ use mathlib.Core.Bool.{Bool, true, not, _&&_, _||_, cond}
 use mathlib.Core.List.{List}
 use Prim.Native.Nat.{ℕ, _+_, _*_, _≤_, _<_}
 use lib.Dec.{eqb}
-use lib.ListN.{length, getD, drop}
+use lib.ListN.{length, getD}
 use Rattle.ctl.specs.Links.{link, linkBy, linkRule}
 use Rattle.ctl.specs.Lists.{imp}
 use Rattle.ctl.specs.Modes.{hasMode}
 use Rattle.wordset.specs.Below.{anyBelow, countBelow}
-use Rattle.wordset.specs.Word.{bit}
 use Rattle.members.specs.Members.{argW, forms, tagW}
 use Rattle.truth.specs.Tables.{form, leanForms}
-use Rattle.truth.specs.Blocks.{has}
+use Rattle.truth.specs.Blocks.{has, rowsOf}
 use Rattle.links.specs.declared.Rule.{Rule}
 use Rattle.links.specs.declared.Rule.the-variants.{Forward, Backward, BothWays}
 
@@ -31,22 +30,11 @@ asked ms m = anyBelow (length ms) (λ i. asksBy (getD ms i 0) m)
 unfoldable pub linkRoom : List ℕ → ℕ → ℕ
 linkRoom ms w = 16 + countBelow 16 (asked ms) * (w * 64 * w)
 
--- the rows of mode m
-abbrev pub rowsOf : List ℕ → ℕ → List ℕ
-rowsOf lw m = drop (getD lw m 0) lw
-
 -- the link words: for each mode that is asked for, row t has the types that t is linked to
 pub record Rows (ms ln : List ℕ) (w : ℕ) (lw : List ℕ) : Type 0 where
   pub head : 16 ≤ length lw
   pub room : (m : ℕ) → m < 16 → asked ms m ≡ true → getD lw m 0 + w * 64 * w ≤ length lw
   pub rows : (m : ℕ) → m < 16 → asked ms m ≡ true → (t u : ℕ) → t < w * 64 → u < w * 64 → has w (rowsOf lw m) t u ≡ Lk ms ln m t u
-
--- by the rows of a mode t is linked to a type that passes S, or to a type that word y at j has
-unfoldable pub meets : ℕ → List ℕ → (ℕ → Bool) → ℕ → Bool
-meets w rows S t = anyBelow (w * 64) (λ c. has w rows t c && S c)
-
-unfoldable pub meetsAt : ℕ → List ℕ → ℕ → ℕ → ℕ → Bool
-meetsAt w rows j y t = anyBelow 64 (λ b. has w rows t (j * 64 + b) && bit y b)
 
 -- ---- how they are found
 

@@ -5,9 +5,8 @@ use mathlib.Core.Logic.{_↔_}
 use mathlib.Core.List.{List, _++_, map}
 use Prim.Native.Nat.{ℕ, zero, suc, _-_, _*_, _%_, _≤_, _<_}
 use native.Mathlib.Omega.{arith}
-use lib.ListN.{length, getD, take, drop, replicate}
+use lib.ListN.{length, getD, take, drop, replicate, List·getD-append}
 use lib.Seq.{getD-take, length-take-le}
-use lib.ListN.{List·getD-append}
 use borrow.Author.Tests.{le-ltb, lt-ltb}
 use Rattle.ctl.specs.Lists.{_∈_}
 use Rattle.ctl.specs.Meaning.{HoldsRaw}

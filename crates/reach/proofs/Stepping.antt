@@ -23,7 +23,7 @@ use Rattle.wordset.specs.Below.{allBelow, anyBelow, least}
 use Rattle.wordset.specs.Word.{bit}
 use Rattle.wordset.specs.Words.{member, minus, packed}
 use Rattle.truth.specs.Blocks.{has}
-use Rattle.links.specs.Links.{meets, meetsAt}
+use Rattle.reach.specs.Reach.{meets, meetsAt}
 use Rattle.truth.proofs.BlockLaws.{block-at}
 use Rattle.truth.proofs.ListWords.{held, minus-member}
 use Rattle.members.proofs.ModeLaws.{mode-bit}

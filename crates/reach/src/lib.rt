@@ -8,8 +8,8 @@ ghost use Rattle.wordset.specs.Answers.{Answers};
 ghost use Rattle.wordset.specs.Below.{anyBelow};
 ghost use Rattle.wordset.specs.Word.{bit};
 ghost use Rattle.wordset.specs.Words.{member, packed};
-ghost use Rattle.truth.specs.Blocks.{has};
-ghost use Rattle.links.specs.Links.{meets, meetsAt, rowsOf};
+ghost use Rattle.truth.specs.Blocks.{has, rowsOf};
+ghost use Rattle.reach.specs.Reach.{meets, meetsAt};
 
 // Word x with the numbers of word y, if on is true.
 fn join_if(x: u64, y: u64, on: bool) -> u64

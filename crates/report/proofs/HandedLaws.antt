@@ -7,11 +7,11 @@ use lib.ListN.{length}
 use Rattle.ctl.specs.Tableau.{namings}
 use Rattle.reader.specs.Reader.{refusalOf}
 use Rattle.prepare.specs.Prepared.{tableauIn}
-use Rattle.lines.specs.Lines.{headingLine, refusedLine, verdictHeading, verdictLine}
+use Rattle.lines.specs.Lines.{headingLine, refusedLine, verdictHeading, verdictLine, joined}
 use Rattle.report.specs.Handed.{Handed, none, more}
-use Rattle.report.specs.Pages.{rows}
+use Rattle.pages.specs.Pages.{rows}
 use Rattle.fitted.specs.Accepted.{verdictIn}
-use Rattle.report.specs.Text.{joined, linesOf, namingOf, textOf, upTo}
+use Rattle.report.specs.Text.{linesOf, namingOf, textOf, upTo}
 use Rattle.report.proofs.TextLaws.{accepted-count, joined-append, refused-count, refused-text, upto-length, upto-naming, upto-verdict}
 
 handed-lines : {lines : List (List ℕ)} {n : ℕ} {writes : List (List ℕ)} → Handed lines n writes → joined writes ≡ upTo n lines

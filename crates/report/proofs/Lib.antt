@@ -1,6 +1,4 @@
 pub mod HandedLaws
-pub mod PageLaws
 pub mod ReportLaws
-pub mod RowLaws
 pub mod TextLaws
 pub mod WriteLaws

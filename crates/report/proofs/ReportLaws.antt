@@ -13,7 +13,8 @@ use Rattle.frame.specs.SetUp.{Accepts, SetUp, globalsIn, leanIn, membersIn, nam
 use Rattle.frame.specs.declared.Setup.{Setup}
 use Rattle.frame.proofs.VerdictLaws.{framed-verdict}
 use Rattle.fitted.specs.Accepted.{verdictIn}
-use Rattle.report.specs.Pages.{Prints, rowAt}
+use Rattle.pages.specs.Pages.{rowAt}
+use Rattle.report.specs.Prints.{Prints}
 use Rattle.report.specs.Text.{namingOf}
 
 module _ {s : List ℕ} {u : Setup} (x : SetUp s u) (e : u .refusal ≡ 0) where

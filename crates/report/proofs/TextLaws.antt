@@ -10,10 +10,10 @@ use Rattle.ctl.specs.Lists.{below, countFrom}
 use Rattle.ctl.specs.Tableau.{namings}
 use Rattle.reader.specs.Reader.{refusalOf}
 use Rattle.prepare.specs.Prepared.{tableauIn}
-use Rattle.lines.specs.Lines.{headingLine, refusedLine, verdictHeading, verdictLine}
-use Rattle.report.specs.Pages.{rows}
+use Rattle.lines.specs.Lines.{headingLine, refusedLine, verdictHeading, verdictLine, joined}
+use Rattle.pages.specs.Pages.{rows}
 use Rattle.fitted.specs.Accepted.{verdictIn}
-use Rattle.report.specs.Text.{joined, linesBy, linesOf, namingOf, textOf, upTo}
+use Rattle.report.specs.Text.{linesBy, linesOf, namingOf, textOf, upTo}
 
 pub joined-append : (a b : List (List ℕ)) → joined (a ++ b) ≡ joined a ++ joined b
 joined-append [] b = refl

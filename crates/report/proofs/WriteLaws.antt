@@ -14,11 +14,12 @@ use Rattle.judge.specs.declared.Verdict.the-variants.{Unsatisfiable}
 use Rattle.lines.specs.Lines.{headingLine, verdictHeading, verdictLine}
 use Rattle.lines.specs.Put.{Put}
 use Rattle.lines.proofs.PutLaws.{put-front}
-use Rattle.report.specs.Pages.{Paged, Prints, rowAt, rows}
+use Rattle.pages.specs.Pages.{Paged, rowAt, rows}
+use Rattle.report.specs.Prints.{Prints}
 use Rattle.report.specs.Text.{linesOf, namingOf, upTo}
-use Rattle.report.specs.declared.pages.Page.{Page}
-use Rattle.report.proofs.PageLaws.{judged-at, judged-none}
-use Rattle.report.proofs.RowLaws.{rows-none, rows-same, rows-split}
+use Rattle.pages.specs.declared.Page.{Page}
+use Rattle.pages.proofs.PageLaws.{judged-at, judged-none}
+use Rattle.pages.proofs.RowLaws.{rows-none, rows-same, rows-split}
 use Rattle.report.proofs.TextLaws.{accepted-count, upto-naming, upto-verdict}
 
 -- the loop, before a page: `done` lines were handed over, and the buffer holds the next ones up to naming n

@@ -1,4 +1,3 @@
 pub mod Handed
-pub mod Later
-pub mod Pages
+pub mod Prints
 pub mod Text

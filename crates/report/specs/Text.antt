@@ -8,7 +8,7 @@ use Rattle.ctl.specs.Verdict.{roundsOf, survivingTypes}
 use Rattle.reader.specs.Reader.{refusalOf}
 use Rattle.prepare.specs.Prepared.{tableauIn}
 use Rattle.fitted.specs.Accepted.{verdictIn}
-use Rattle.lines.specs.Lines.{headingLine, namingLine, refusedLine, verdictHeading, verdictLine}
+use Rattle.lines.specs.Lines.{joined, headingLine, namingLine, refusedLine, verdictHeading, verdictLine}
 
 -- the line of naming r: how many types there are at start, how many survive (document 01's left), and the rounds
 unfoldable pub namingOf : List ℕ → List ℕ → ℕ → List ℕ
@@ -21,11 +21,6 @@ linesBy s newline (suc k) = refusedLine (suc k) newline ∷ []
 
 unfoldable pub linesOf : List ℕ → List ℕ → List (List ℕ)
 linesOf s newline = linesBy s newline (refusalOf s)
-
--- lines, one after the other
-abbrev pub joined : List (List ℕ) → List ℕ
-joined [] = []
-joined (l ∷ ls) = l ++ joined ls
 
 unfoldable pub textOf : List ℕ → List ℕ → List ℕ
 unfolding linesOf

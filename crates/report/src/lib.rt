@@ -8,11 +8,8 @@ ghost use Rattle.reader.specs.Reader.{refusalOf};
 ghost use Rattle.tableau.specs.Families.{Ready};
 ghost use Rattle.judge.specs.Judged.{Places};
 ghost use Rattle.frame.specs.SetUp.{SetUp};
-ghost use Rattle.report.specs.Pages.{Prints};
+ghost use Rattle.report.specs.Prints.{Prints};
 ghost use Rattle.report.specs.Text.{linesOf, upTo};
-
-mod pages;
-
 use frame::Setup;
 use judge::Verdict;
 use pages::fill_page;

@@ -21,9 +21,10 @@ use Rattle.wordset.specs.Below.{allBelow, anyBelow}
 use Rattle.wordset.specs.Words.{member}
 use Rattle.members.specs.Members.{formBy, forms}
 use Rattle.truth.specs.Tables.{argAt, form, leftAt, rightAt, tagAt}
-use Rattle.truth.specs.Blocks.{has, listOf}
+use Rattle.truth.specs.Blocks.{has, listOf, rowsOf}
 use Rattle.truth.specs.Truths.{Tr, trueAt}
-use Rattle.links.specs.Links.{Lk, asked, asksBy, meets, rowsOf}
+use Rattle.links.specs.Links.{Lk, asked, asksBy}
+use Rattle.reach.specs.Reach.{meets}
 use Rattle.tableau.specs.Families.{Follows, Linked, Next, Ready, passes}
 use Rattle.truth.proofs.TestLaws.{to-or}
 use Rattle.truth.proofs.ListWords.{any-listed, list-in, list-out}

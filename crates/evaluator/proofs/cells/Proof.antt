@@ -1,7 +1,7 @@
 -- `cells` meets its contract: the first i bytes are done. Assumes nothing.
 use Prim.Native.Nat.{_-_}
 use Rattle.wordset.proofs.Filling.{Filling, begins, goes, ends}
-use Rattle.evaluator.specs.Nodes.{cellBy}
+use Rattle.evaluator.specs.Values.{cellBy}
 use borrow.Author.Needs.{needs}
 use Rattle.evaluator.proofs.cells.Statement.{statement}
 use Rattle.evaluator.proofs.cells.Tie as tie

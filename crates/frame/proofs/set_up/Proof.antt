@@ -2,9 +2,8 @@
 use denote.Struct.Field.{u8-field, usize-field}
 use mathlib.Core.Path.{refl, sym}
 use lib.Seq.{length-take-le}
-use borrow.Author.Needs.{length-unmapped}
+use borrow.Author.Needs.{length-unmapped, needs}
 use Rattle.frame.proofs.SetUpLaws.{count-within, formulas-within, frame-asked, setup-accepted, setup-refused, symbols-within, width-within}
-use borrow.Author.Needs.{needs}
 use Rattle.frame.proofs.set_up.Statement.{statement}
 use Rattle.frame.proofs.set_up.Tie as tie
 

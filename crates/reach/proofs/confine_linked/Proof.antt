@@ -4,7 +4,7 @@ use mathlib.Core.Bool.{_&&_}
 use native.Mathlib.Omega.{arith}
 use Rattle.wordset.specs.Words.{member}
 use Rattle.truth.specs.Blocks.{has}
-use Rattle.links.specs.Links.{meets}
+use Rattle.reach.specs.Reach.{meets}
 use Rattle.truth.proofs.ListWords.{pick-member}
 use Rattle.reach.proofs.Stepping.{dropped-kept}
 use Rattle.reach.proofs.confine_linked.Statement.{statement}

@@ -6,7 +6,7 @@ use Rattle.wordset.proofs.Filling.{Filling, begins, ends, goes, next-answers}
 use Rattle.wordset.proofs.PackLaws.{packWord}
 use Rattle.wordset.proofs.AnswersLaws.{answers-word}
 use Rattle.wordset.specs.Words.{member}
-use Rattle.links.specs.Links.{meetsAt}
+use Rattle.reach.specs.Reach.{meetsAt}
 use Rattle.truth.proofs.ListWords.{held}
 use Rattle.reach.proofs.Stepping.{apart-none}
 use Rattle.reach.proofs.drop_linked_word.Statement.{statement}

@@ -6,7 +6,8 @@ use native.Mathlib.Omega.{arith}
 use lib.Count.{trailingZeros}
 use lib.ListN.{length, getD}
 use Rattle.wordset.specs.Words.{member}
-use Rattle.links.specs.Links.{meets, rowsOf}
+use Rattle.reach.specs.Reach.{meets}
+use Rattle.truth.specs.Blocks.{rowsOf}
 use Rattle.truth.proofs.BlockLaws.{tail, tail-room}
 use Rattle.truth.proofs.ListWords.{held}
 use Rattle.truth.proofs.Sifting.{less-lt}

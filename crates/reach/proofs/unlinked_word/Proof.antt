@@ -8,7 +8,7 @@ use borrow.Author.Needs.{needs}
 use lib.Count.{trailingZeros}
 use lib.ListN.{length}
 use Rattle.wordset.specs.Word.{bit}
-use Rattle.links.specs.Links.{meetsAt}
+use Rattle.reach.specs.Reach.{meetsAt}
 use Rattle.truth.proofs.BlockLaws.{slot}
 use Rattle.truth.proofs.Sifting.{Sifting, less-lt, lowest, sift-end, sift-next, sift-start}
 use Rattle.reach.proofs.Stepping.{apart-at}

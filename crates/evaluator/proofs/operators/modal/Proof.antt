@@ -1,7 +1,8 @@
 -- `modal` meets its contract: a tag at a time. Assumes nothing.
 use mathlib.Core.Path.{ap, ap₂, _∙_}
 use borrow.Author.Tests.{eq-eqb, ne-eqb}
-use Rattle.evaluator.specs.Nodes.{preWord, flipWord, euWord, auWord, modalWord}
+use Rattle.edges.specs.Nodes.{flipWord}
+use Rattle.evaluator.specs.Values.{preWord, euWord, auWord, modalWord}
 use Rattle.evaluator.proofs.operators.modal.Statement.{statement}
 use Rattle.evaluator.proofs.operators.modal.Tie as tie
 

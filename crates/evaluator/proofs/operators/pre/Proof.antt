@@ -6,8 +6,8 @@ use lib.Dec.{eqb}
 use lib.Bits.{bitAnd}
 use lib.ListN.{getD}
 use native.Mathlib.Omega.{arith}
-use Rattle.evaluator.specs.Nodes.{preWord}
-use Rattle.evaluator.proofs.NodeLaws.{Gathering, gather-begin, gather-on, gather-end}
+use Rattle.evaluator.specs.Values.{preWord}
+use Rattle.edges.proofs.NodeLaws.{Gathering, gather-begin, gather-on, gather-end}
 use borrow.Author.Needs.{needs}
 use Rattle.evaluator.proofs.operators.pre.Statement.{statement}
 use Rattle.evaluator.proofs.operators.pre.Tie as tie

@@ -3,8 +3,9 @@ use Prim.Native.Nat.{ℕ, _≤_, _-_}
 use mathlib.Core.Path.{_≡_, ap, ap₂, _∙_}
 use lib.Bits.{bitAnd, bitOr}
 use native.Mathlib.Omega.{arith}
-use Rattle.evaluator.specs.Nodes.{fullWord, preWord, flipWord, auRound, repeat, auWord}
-use Rattle.evaluator.proofs.NodeLaws.{repeat-none, repeat-on, repeat-end}
+use Rattle.edges.specs.Nodes.{fullWord, flipWord, repeat}
+use Rattle.evaluator.specs.Values.{preWord, auRound, auWord}
+use Rattle.edges.proofs.NodeLaws.{repeat-none, repeat-on, repeat-end}
 use borrow.Author.Needs.{needs}
 use Rattle.evaluator.proofs.operators.until_all.Statement.{statement}
 use Rattle.evaluator.proofs.operators.until_all.Tie as tie

@@ -3,8 +3,9 @@ use Prim.Native.Nat.{ℕ, _≤_, _-_}
 use mathlib.Core.Path.{_≡_, ap}
 use lib.Bits.{bitAnd, bitOr}
 use native.Mathlib.Omega.{arith}
-use Rattle.evaluator.specs.Nodes.{euRound, repeat, euWord}
-use Rattle.evaluator.proofs.NodeLaws.{repeat-none, repeat-on, repeat-end}
+use Rattle.edges.specs.Nodes.{repeat}
+use Rattle.evaluator.specs.Values.{euRound, euWord}
+use Rattle.edges.proofs.NodeLaws.{repeat-none, repeat-on, repeat-end}
 use borrow.Author.Needs.{needs}
 use Rattle.evaluator.proofs.operators.until_some.Statement.{statement}
 use Rattle.evaluator.proofs.operators.until_some.Tie as tie

@@ -1,7 +1,8 @@
 -- `plain` meets its contract, a tag at a time. Assumes nothing.
 use mathlib.Core.Path.{ap, _∙_}
 use borrow.Author.Tests.{eq-eqb, ne-eqb}
-use Rattle.evaluator.specs.Nodes.{flipWord, plainWord}
+use Rattle.edges.specs.Nodes.{flipWord}
+use Rattle.evaluator.specs.Values.{plainWord}
 use borrow.Author.Needs.{needs}
 use Rattle.evaluator.proofs.values.plain.Statement.{statement}
 use Rattle.evaluator.proofs.values.plain.Tie as tie

@@ -1,14 +1,11 @@
 -- `declarations::declare` meets its contract. Assumes nothing.
 use Rattle.head.specs.Head.{entryOf, declare as declareFrom, declared}
-use mathlib.Core.Path.{ap}
-use Prim.Native.Nat.{ℕ}
+use mathlib.Core.Path.{ap, _≡_, refl, sym, _∙_}
+use Prim.Native.Nat.{ℕ, _≤_, _-_}
 use Rattle.head.proofs.DeclareLaws.{lower-low, lower-high, declare-set, declare-not, declare-out, declare-end}
-use lib.ListN.{getD}
+use lib.ListN.{getD, length, drop, length-set}
 use native.Mathlib.Omega.{arith}
-use lib.ListN.{length, drop, length-set}
-use Prim.Native.Nat.{_≤_, _-_}
 use mathlib.Core.Logic.{⊎-elim}
-use mathlib.Core.Path.{_≡_, refl, sym, _∙_}
 use Rattle.head.proofs.declarations.declare.Statement.{statement}
 use Rattle.head.proofs.declarations.declare.Tie as tie
 

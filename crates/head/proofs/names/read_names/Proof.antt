@@ -1,5 +1,5 @@
 -- `names::read_names` meets its contract. Assumes nothing.
-use Prim.Native.Nat.{_<_}
+use Prim.Native.Nat.{_<_, _≤_, _-_, _+_}
 use lib.Seq.{length-take-le}
 use native.Mathlib.Omega.{arith}
 use Rattle.head.proofs.WordLaws.{names-wrong, names-room, names-inside, names-last, names-next}
@@ -7,7 +7,6 @@ use Rattle.head.specs.Head.{space, namesFrom, namesOf}
 use Rattle.layout.specs.Text.{split}
 use borrow.Author.Tests.{not-true, not-false}
 use lib.ListN.{length, take, drop, length-set}
-use Prim.Native.Nat.{_≤_, _-_, _+_}
 use mathlib.Core.Path.{_≡_, refl, sym, _∙_}
 use Rattle.head.proofs.names.read_names.Statement.{statement}
 use Rattle.head.proofs.names.read_names.Tie as tie

@@ -1,11 +1,10 @@
 -- `lines::count_lines` meets its contract. Assumes nothing.
 use native.Mathlib.Omega.{arith}
-use mathlib.Core.Path.{ap}
+use mathlib.Core.Path.{ap, _≡_}
 use Rattle.layout.proofs.LineLaws.{count-next, count-last, lines-end}
 use Rattle.layout.specs.Layout.{lines, linesFrom}
 use lib.ListN.{length}
 use Prim.Native.Nat.{_≤_, _-_, _+_}
-use mathlib.Core.Path.{_≡_}
 use Rattle.layout.proofs.lines.count_lines.Statement.{statement}
 use Rattle.layout.proofs.lines.count_lines.Tie as tie
 
