@@ -20,8 +20,8 @@ const LETTERS: &str = "c t w h\nmark mark field field\n";
 /// In the list of typing errors, what was meant begins at this column.
 const MEANT: usize = 37;
 
-#[derive(Clone)]
 /// A sheet, or a snapshot under it with the length of a row, and what the guide says of it.
+#[derive(Clone)]
 struct Claim {
     line: usize,
     sheet: String,
@@ -129,10 +129,10 @@ fn claims(guide: &str) -> Vec<Claim> {
                     None
                 });
         } else if !line.starts_with('|') {
-            assert!(
-                comment.is_none() || line.is_empty(),
-                "line {at}: no block for the answer above"
-            );
+            let block_missing = comment.is_some() && !line.is_empty();
+            assert!(!block_missing, "line {at}: no block below the answer");
+            let misspelt = line != "<!--" && line.contains("<!--");
+            assert!(!misspelt, "line {}: no comment as meant", at + 1);
         } else if line.ends_with("---|") {
             heading = lines[at - 1];
         } else if !lines[at + 1].ends_with("---|") {

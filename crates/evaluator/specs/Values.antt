@@ -15,7 +15,7 @@ use Rattle.edges.specs.Nodes.{edgeWords, flipWord, fullWord, onWord, repeat}
 unfoldable pub allWord : List ℕ → List ℕ → ℕ → ℕ
 allWord sets members n = wordOf n (λ i. W.allBelow (length members) (λ k. bit (getD sets (getD members k 0) 0) i))
 
--- the nodes before a node of x, by such words
+-- the nodes before a node of x, by words that have for each node the nodes after it
 unfoldable pub preWord : List ℕ → ℕ → ℕ → ℕ
 preWord e n x = wordOf n (λ i. not (eqb (bitAnd (getD e i 0) x) 0))
 
