@@ -24,13 +24,13 @@ use Rattle.ctl.proofs.NodeTypes.{nodeType, type-is, type-only, true-nod
 use Rattle.ctl.proofs.Soundness.{starts-node, in-families, survives}
 use Rattle.ctl.proofs.NamingLaws.{some-naming}
 
-module _ (letter : ℕ → ℕ) (name : ℕ → Bool) (globals : List Raw) (goal : Raw) where
+module _ (spell : ℕ → List ℕ) (name : ℕ → Bool) (globals : List Raw) (goal : Raw) where
   abbrev S : Tableau
-  S = sheetTableau letter name globals goal
+  S = sheetTableau spell name globals goal
 
   proper : Proper S
   unfolding sheetTableau
-  proper = tableau-proper letter name (map positive globals) (positive goal ∷ [])
+  proper = tableau-proper spell name (map positive globals) (positive goal ∷ [])
 
   goal-in : positive goal ∈ S .cl
   unfolding sheetTableau tableauOf
@@ -75,7 +75,7 @@ module _ (letter : ℕ → ℕ) (name : ℕ → Bool) (globals : List Raw) (goal
         let t = nodeType S s i in
         (w .0, t, w .1, (end-there (w .0) (w .2) i t l (type-is S s i l), true-node S proper s (positive goal) i l goal-in (T-true (sat s (positive goal) i) (raw-sat s goal i l .1 h))))
 
-  pub demand-3 : Demand3 letter name globals goal (verdict S (positive goal))
+  pub demand-3 : Demand3 spell name globals goal (verdict S (positive goal))
   demand-3 = record {
     unsatisfiable-iff = unsatisfiable-iff S (positive goal);
     family-zero = family-zero S;

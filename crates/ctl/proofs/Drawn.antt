@@ -11,16 +11,16 @@ use Rattle.ctl.specs.Tableau.{Tableau}
 use Rattle.ctl.specs.Verdict.{Verdict, unsatisfiable, open′, verdict}
 use Rattle.ctl.specs.Demand3.{sheetTableau}
 
--- a sheet: the letters of line 1 as bytes, the symbols that are names, the globals, the goal
+-- a sheet: the spellings of line 1 as bytes, the symbols that are names, the globals, the goal
 record Drawing : Type 0 where
-  letters : List ℕ
+  spellings : List (List ℕ)
   names : List ℕ
   globals : List Raw
   goal : Raw
 
 tableau : Drawing → Tableau
 unfolding sheetTableau elem
-tableau d = sheetTableau (λ k. getD (d .letters) k 0) (λ k. elem k (d .names)) (d .globals) (d .goal)
+tableau d = sheetTableau (λ k. getD (d .spellings) k []) (λ k. elem k (d .names)) (d .globals) (d .goal)
 
 judged : Drawing → Verdict
 unfolding tableau verdict signed
@@ -30,7 +30,7 @@ judged d = verdict (tableau d) (positive (d .goal))
 
 -- under `k f`, `mark field`: k is symbol 0, f field 1
 kf : Raw → Drawing
-kf goal = record { letters = 107 ∷ 102 ∷ []; names = []; globals = []; goal = goal }
+kf goal = record { spellings = (107 ∷ []) ∷ (102 ∷ []) ∷ []; names = []; globals = []; goal = goal }
 
 k : Raw
 k = sym 0
@@ -50,15 +50,15 @@ both = forward + backward
 example51 : Drawing
 example51 =
     let v = sym 1 in
-    record { letters = 107 ∷ 118 ∷ 102 ∷ 103 ∷ []; names = 1 ∷ []; globals = imp v (and (ex (2 ^ 2) k) (ex (2 ^ 2) (neg k))) ∷ []; goal = ex (2 ^ 3) v }
+    record { spellings = (107 ∷ []) ∷ (118 ∷ []) ∷ (102 ∷ []) ∷ (103 ∷ []) ∷ []; names = 1 ∷ []; globals = imp v (and (ex (2 ^ 2) k) (ex (2 ^ 2) (neg k))) ∷ []; goal = ex (2 ^ 3) v }
 
 -- `k f`, `all !k`, `goal EF{f}k`
 neverThere : Drawing
-neverThere = record { letters = 107 ∷ 102 ∷ []; names = []; globals = neg k ∷ []; goal = ef forward k }
+neverThere = record { spellings = (107 ∷ []) ∷ (102 ∷ []) ∷ []; names = []; globals = neg k ∷ []; goal = ef forward k }
 
 -- `k f g`, `all EX{g}!k`, `goal AF{f,g}k&!k&EX{f}1`
 otherWay : Drawing
-otherWay = record { letters = 107 ∷ 102 ∷ 103 ∷ []; names = []; globals = ex (2 ^ 2) (neg k) ∷ []; goal = and (af (2 ^ 1 + 2 ^ 2) k) (and (neg k) (ex (2 ^ 1) one)) }
+otherWay = record { spellings = (107 ∷ []) ∷ (102 ∷ []) ∷ (103 ∷ []) ∷ []; names = []; globals = ex (2 ^ 2) (neg k) ∷ []; goal = and (af (2 ^ 1 + 2 ^ 2) k) (and (neg k) (ex (2 ^ 1) one)) }
 
 -- ---- verdicts
 

@@ -33,20 +33,20 @@ pub record Proper (S : Tableau) : Type 0 where
   pub single-ex : (A : ℕ) (p : Form) → ex A p ∈ S .cl → T (single A) → ex A p ∈ S .ln
   pub single-ax : (A : ℕ) (p : Form) → ax A p ∈ S .cl → T (single A) → ax A p ∈ S .ln
 
-module _ (letter : ℕ → ℕ) (name : ℕ → Bool) (globals goals : List Form) where
+module _ (spell : ℕ → List ℕ) (name : ℕ → Bool) (globals goals : List Form) where
   C : List Form
   C = closure (globals ++ goals)
 
   -- the tableau of globals and goals is proper
-  pub tableau-proper : Proper (tableauOf letter name globals goals)
+  pub tableau-proper : Proper (tableauOf spell name globals goals)
   unfolding tableauOf isNext C
   tableau-proper = record {
     part = closure-saturated (globals ++ goals) .part;
     expansion = closure-saturated (globals ++ goals) .expansion;
     globals-in = λ p m. closure-has (globals ++ goals) (Memᴰ·append-left goals m);
-    letter = λ k m. lean-members letter C (lit k) .1 (m, tt);
-    single-ex = λ A p m s. lean-members letter C (ex A p) .1 (m, s);
-    single-ax = λ A p m s. lean-members letter C (ax A p) .1 (m, s);
+    letter = λ k m. lean-members spell C (lit k) .1 (m, tt);
+    single-ex = λ A p m s. lean-members spell C (ex A p) .1 (m, s);
+    single-ax = λ A p m s. lean-members spell C (ax A p) .1 (m, s);
   }
 
 -- ---- a lean member is true in exactly the types that have its place
@@ -87,20 +87,20 @@ module _ (ln : List Form) (t : ℕ) where
       go (inl k) = subst (λ q. truth ln t q ≡ holds ln t q) (sym (is-ex p k)) (ex-holds (num p) (right p) s)
       go (inr k) = subst (λ q. truth ln t q ≡ holds ln t q) (sym (is-ax p k)) (ax-holds (num p) (right p) s)
 
-module _ (letter : ℕ → ℕ) (name : ℕ → Bool) (globals goals : List Form) where
+module _ (spell : ℕ → List ℕ) (name : ℕ → Bool) (globals goals : List Form) where
   -- place k of the lean counts 2 ^ k
-  pub lean-place : (t k : ℕ) → k < length (tableauOf letter name globals goals .ln)
-      → truth (tableauOf letter name globals goals .ln) t (getD (tableauOf letter name globals goals .ln) k tru) ≡ inType t k
+  pub lean-place : (t k : ℕ) → k < length (tableauOf spell name globals goals .ln)
+      → truth (tableauOf spell name globals goals .ln) t (getD (tableauOf spell name globals goals .ln) k tru) ≡ inType t k
   unfolding tableauOf holds
   lean-place t k h =
-      member (or-out (isLetter p) (isNext p) (lean-members letter cl p .0 (getD-in tru ln k h) .1))
-      ∙ ap (inType t) (index-place ln (lean-unique letter cl (closure-unique (globals ++ goals))) k h)
+      member (or-out (isLetter p) (isNext p) (lean-members spell cl p .0 (getD-in tru ln k h) .1))
+      ∙ ap (inType t) (index-place ln (lean-unique spell cl (closure-unique (globals ++ goals))) k h)
     where
       cl : List Form
       cl = closure (globals ++ goals)
 
       ln : List Form
-      ln = lean letter cl
+      ln = lean spell cl
 
       p : Form
       p = getD ln k tru

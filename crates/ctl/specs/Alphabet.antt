@@ -1,18 +1,25 @@
--- The letters of line 1, and formulas over the symbols that they stand for. Assumes nothing.
+-- The spellings of line 1's symbols, and formulas over the symbols. Assumes nothing.
 use mathlib.Core.Path.{_≡_}
 use mathlib.Core.Logic.{_⊎_}
+use mathlib.Core.List.{List}
 use Prim.Native.Nat.{ℕ, _+_, _^_, _≤_, _<_}
+use lib.ListN.{length}
 use Rattle.ctl.specs.Lists.{_∈_}
 use Rattle.ctl.specs.Formula.{Form, tru, fls, lit, nlit, and, or, ex, ax, eu, au, er, ar}
 use Rattle.ctl.specs.Modes.{modes}
 use Rattle.ctl.specs.Raw.{Raw}
 
--- `letter` gives `count` different lower-case letters
-pub record Alphabet (letter : ℕ → ℕ) (count : ℕ) : Type 0 where
+-- a spelling: 1 to 8 lower-case letters
+pub record Spelling (w : List ℕ) : Type 0 where
+  pub some : 0 < length w
+  pub short : length w ≤ 8
+  pub letters : (b : ℕ) → b ∈ w → (97 ≤ b) × (b ≤ 122)
+
+-- `spell` gives `count` different spellings
+pub record Alphabet (spell : ℕ → List ℕ) (count : ℕ) : Type 0 where
   pub few : count ≤ 8
-  pub low : (k : ℕ) → k < count → 97 ≤ letter k
-  pub high : (k : ℕ) → k < count → letter k ≤ 122
-  pub different : (j k : ℕ) → j < count → k < count → letter j ≡ letter k → j ≡ k
+  pub spelled : (k : ℕ) → k < count → Spelling (spell k)
+  pub different : (j k : ℕ) → j < count → k < count → spell j ≡ spell k → j ≡ k
 
 -- The symbols outside braces and the sets of modes that a formula has: S holds of each symbol, M of each set
 module _ (S M : ℕ → Type 0) where

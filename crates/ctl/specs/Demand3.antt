@@ -31,14 +31,14 @@ abbrev pub GlobalsHold : List Raw → Snapshot → Type 0
 GlobalsHold globals s = (g : Raw) → g ∈ globals → (i : ℕ) → i < s .n → HoldsRaw s g i
 
 -- the tableau of a sheet with one goal
-unfoldable pub sheetTableau : (ℕ → ℕ) → (ℕ → Bool) → List Raw → Raw → Tableau
+unfoldable pub sheetTableau : (ℕ → List ℕ) → (ℕ → Bool) → List Raw → Raw → Tableau
 unfolding tableauOf signed
-sheetTableau letter name globals goal = tableauOf letter name (map positive globals) (positive goal ∷ [])
+sheetTableau spell name globals goal = tableauOf spell name (map positive globals) (positive goal ∷ [])
 
--- `letter` gives the symbols' letters, `name` says which symbols are names
-module _ (letter : ℕ → ℕ) (name : ℕ → Bool) (globals : List Raw) (goal : Raw) where
+-- `spell` gives the symbols' spellings, `name` says which symbols are names
+module _ (spell : ℕ → List ℕ) (name : ℕ → Bool) (globals : List Raw) (goal : Raw) where
   abbrev S : Tableau
-  S = sheetTableau letter name globals goal
+  S = sheetTableau spell name globals goal
 
   pub record Demand3 (answer : Verdict) : Type 0 where
     -- (a) unsatisfiable is said exactly when under no naming a surviving type makes the goal true

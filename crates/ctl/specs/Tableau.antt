@@ -19,12 +19,12 @@ pub record Tableau : Type 0 where
   pub name : ℕ → Bool
   pub globals : List Form
 
--- that of globals and goals, where `letter` gives the symbols' letters and `name` says which symbols are names
-unfoldable pub tableauOf : (ℕ → ℕ) → (ℕ → Bool) → List Form → List Form → Tableau
+-- that of globals and goals, where `spell` gives the symbols' spellings and `name` says which symbols are names
+unfoldable pub tableauOf : (ℕ → List ℕ) → (ℕ → Bool) → List Form → List Form → Tableau
 unfolding lean closure
-tableauOf letter name globals goals =
+tableauOf spell name globals goals =
     let c = closure (globals ++ goals) in
-    record { cl = c; ln = lean letter c; name = name; globals = globals }
+    record { cl = c; ln = lean spell c; name = name; globals = globals }
 
 -- some places of a type as a number: the first counts 1, the next 2, and so on
 unfoldable pub pack : List ℕ → ℕ → ℕ
