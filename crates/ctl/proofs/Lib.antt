@@ -28,5 +28,6 @@ pub mod Soundness
 pub mod NamingLaws
 pub mod Demand3
 pub mod OrderLaws
+pub mod FormerLaws
 pub mod Drawn
 pub mod DrawnSnapshots

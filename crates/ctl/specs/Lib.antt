@@ -20,3 +20,4 @@ pub mod Elimination
 pub mod Verdict
 pub mod Demand3
 pub mod Evaluator
+pub mod Former
