@@ -81,7 +81,7 @@ run : List ℕ → List ℕ × List ℕ
 run [] = ([], [])
 run (b ∷ l) = pick (isLow b) (b ∷ (run l .0), run l .1) ([], b ∷ l)
 
--- the first letter in small again
+-- the first byte as the small letter of a capital
 abbrev small : List ℕ → List ℕ
 small l = (hd l + 32) ∷ tl l
 
@@ -285,7 +285,7 @@ module _ (spell : ℕ → List ℕ) (count : ℕ) where
     symbol-no : (k b : ℕ) → k < count → (r : List ℕ) → b < 97 → eqb (hd (spell k ++ r)) b ≡ false
     symbol-no k b o r l = let h = spelling-head r (spell k) (alpha .spelled k o) in ne-eqb (hd (spell k ++ r)) b (λ e. omega arith)
 
-    -- the reader takes a print back
+    -- the reader takes a print back, where no lower-case letter follows
     read-print : (p : Form) → Over count p → (n : ℕ) → size p ≤ n → (r : List ℕ) → NoLetter r → read n (print spell p ++ r) ≡ (p, r)
     unfolding read print size readModal braces
     read-print tru o zero h r g = absurd (omega arith)
