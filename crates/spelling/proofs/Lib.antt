@@ -1,1 +1,2 @@
 pub mod SpellingLaws
+pub mod EntryLaws

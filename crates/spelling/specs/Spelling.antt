@@ -2,7 +2,7 @@
 use mathlib.Core.Bool.{Bool, cond, true, _&&_}
 use mathlib.Core.List.{List, [], _∷_}
 use Prim.Native.Nat.{ℕ, suc, _+_, _*_, _/_, _%_}
-use lib.ListN.{length}
+use lib.ListN.{length, take}
 use lib.Dec.{leb, eqb}
 
 -- a lower-case letter
@@ -32,3 +32,12 @@ lettersFrom (suc f) x = cond (eqb x 0) [] (x % 256 ∷ lettersFrom f (x / 256))
 -- a 64-bit word has room for 8
 abbrev pub lettersOf : ℕ → List ℕ
 lettersOf x = lettersFrom 8 x
+
+-- The entry of a spelling's number in the declarations, which are 16 numbers: 1 + its first place, 0 where it has none. 0 is no spelling's number, and has no entry
+unfoldable pub entryFrom : ℕ → ℕ → List ℕ → ℕ
+entryFrom i x [] = 0
+entryFrom i x (y ∷ r) = cond (eqb y x) (suc i) (entryFrom (suc i) x r)
+
+unfoldable pub entryIn : List ℕ → ℕ → ℕ
+unfolding entryFrom
+entryIn decl x = cond (eqb x 0) 0 (entryFrom 0 x (take 16 decl))

@@ -2,7 +2,7 @@
 ghost use mathlib.Core.Path.{_≡_};
 ghost use Prim.Native.Nat.{ℕ, _+_, _^_, _≤_, _<_};
 ghost use lib.ListN.{length, getD, drop};
-ghost use Rattle.spelling.specs.Spelling.{lower, run, spelled, word, lettersFrom};
+ghost use Rattle.spelling.specs.Spelling.{lower, run, spelled, word, lettersFrom, entryIn};
 
 pub fn is_lower(b: u8) -> bool
     ensures { λ r. ⌜ r ≡ lower b ⌝ }
@@ -76,4 +76,24 @@ pub fn letter_of(x: u64, k: usize) -> u8
         return (x % 256) as u8;
     }
     letter_of(x / 256, k - 1)
+}
+
+// A word's entry in the declarations: 1 + its first place among 16, 0 where it has none.
+pub fn entry(decl: &[u64], x: u64) -> u8
+    ensures { λ r. ⌜ r ≡ entryIn (now (decl .entry)) x ⌝ }
+{
+    if x == 0 {
+        return 0;
+    }
+    let mut i: u8 = 0;
+    while i < 16 {
+        if decl.len() <= i as usize {
+            return 0;
+        }
+        if decl[i as usize] == x {
+            return i + 1;
+        }
+        i += 1;
+    }
+    0
 }
