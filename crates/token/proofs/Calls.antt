@@ -1,4 +1,4 @@
--- What a caller of `reader_on` and `take_token` passes, what each asks of it, and what it learns: for walks of functions on a line and a position. Assumes nothing.
+-- What a caller of `reader_on`, `take_token` and `take_inner` passes, what each asks of it, and what it learns: for walks of functions on a line and a position. Assumes nothing.
 use mathlib.Core.Path.{_≡_}
 use Prim.Native.Nat.{ℕ}
 use mathlib.Core.List.{List, [], _∷_}
@@ -28,13 +28,14 @@ use denote.Triple.Statement.{Contract}
 use denote.Triple.Entry.{onEntry, Vals}
 use denote.Triple.Spec.{tripleOf}
 use denote.Triple.Clauses.{ensured, lasts}
-use Rattle.token.specs.Token.{tokenAt}
+use Rattle.token.specs.Token.{tokenAt, innerAt}
 use Rattle.token.specs.declared.Reader.{Reader}
 use Rattle.token.specs.declared.Token.{Token}
 use Rattle.token.proofs.Reader as T
 use Rattle.token.proofs.Reader.Laws as T′
 use Rattle.token.proofs.reader_on as new
 use Rattle.token.proofs.take_token as next
+use Rattle.token.proofs.take_inner as inner
 
 -- the struct's type, over the signature's lifetimes
 abbrev pub B : Lfts 1 → RattleType
@@ -48,6 +49,9 @@ module _ {M : Type 1} (𝓤 : URA M) (H : Heap 𝓤) (A : Atoms 𝓤) (mem : Mem
   abbrev pub Next : Contract 𝓤
   Next = tripleOf 𝓤 H A next.signature (next.spec 𝓤 H A mem run)
 
+  abbrev pub Inner : Contract 𝓤
+  Inner = tripleOf 𝓤 H A inner.signature (inner.spec 𝓤 H A mem run)
+
 module _ {M : Type 1} (𝓤 : URA M) (H : Heap 𝓤) (A : Atoms 𝓤) (W : Given 𝓤 H A) (mem : Memory → SProp 𝓤) (run : Routine → Fun 𝓤) (κ : Lft) (q : Share) where
   -- the calls of `take_token`, at the struct r with the machine value u
   abbrev pub to-next : Reader → Val → Next 𝓤 H A mem run .Ghost
@@ -58,6 +62,16 @@ module _ {M : Type 1} (𝓤 : URA M) (H : Heap 𝓤) (A : Atoms 𝓤) (W : Given
 
   pub next-said : (r : Reader) (t : Token) → ent 𝓤 (ensured 𝓤 H A next.ended (next.clauses 𝓤 H A mem run) (κ, tt) (r, tt) tt t) (fact 𝓤 (t ≡ tokenAt (now (r .line)) (r .at)))
   next-said r t = exE 𝓤 _ (λ ws. snd∗ 𝓤 (sem 𝓤 H A (lasts next.ended (κ, tt) (r, tt) ws)) (fact 𝓤 (t ≡ tokenAt (now (r .line)) (r .at))))
+
+  -- the same of `take_inner`
+  abbrev pub to-inner : Reader → Val → Inner 𝓤 H A mem run .Ghost
+  to-inner r u = (((κ, tt), (q, tt), tt, (r, tt), (u ∷ [], tt)), tt)
+
+  pub goes-inner : (r : Reader) (u : Val) → ent 𝓤 (⋆ 𝓤 H A (‵ (B (κ, tt) .own r (u ∷ [])) ∷ (‵ (flft κ q) ⊛ ‵ ftrue) ∷ [])) (Inner 𝓤 H A mem run .pre (to-inner r u))
+  goes-inner r u = qed W (‵ (B (κ, tt) .own r (u ∷ [])) ∷ (‵ (flft κ q) ⊛ ‵ ftrue) ∷ []) ∵ nothing ! $ move ! (1 ∷ 0 ∷ []) $ fjoin ! $ move ! (1 ∷ 0 ∷ []) $ join ! $ frame ! $ done !
+
+  pub inner-said : (r : Reader) (t : Token) → ent 𝓤 (ensured 𝓤 H A inner.ended (inner.clauses 𝓤 H A mem run) (κ, tt) (r, tt) tt t) (fact 𝓤 (t ≡ innerAt (now (r .line)) (r .at)))
+  inner-said r t = exE 𝓤 _ (λ ws. snd∗ 𝓤 (sem 𝓤 H A (lasts inner.ended (κ, tt) (r, tt) ws)) (fact 𝓤 (t ≡ innerAt (now (r .line)) (r .at))))
 
   -- the machine value of a reader has the type that a local of a body has: MIR erases its lifetime, which what the struct owns does not say
   pub typed : (r : Reader) (u : Val) → Is (B (κ, tt)) r (u ∷ []) → Holds (hasTy (T′.mir erased) u) × WT u

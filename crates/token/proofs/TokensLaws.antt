@@ -1,24 +1,26 @@
 -- Laws of `tokens`: the token at a position is the first of the tokens from there on. Assumes nothing.
-use mathlib.Core.Path.{_≡_, refl, sym, ap, _∙_}
-use mathlib.Core.Bool.{Bool, true, false, not, _&&_}
+use mathlib.Core.Path.{_≡_, refl, sym, ap, ap₂, _∙_}
+use mathlib.Core.Bool.{Bool, true, false, _&&_}
+use mathlib.Core.Logic.{_⊎_, inl, inr}
 use mathlib.Core.List.{List, [], _∷_, _++_}
-use Prim.Native.Nat.{ℕ, suc, _+_, _≤_, _<_}
+use Prim.Native.Nat.{ℕ, suc, _+_, _-_, _≤_, _<_}
 use native.Mathlib.Omega.{arith}
 use native.Mathlib.Nat.{add-zero}
-use native.Mathlib.Numerals.{add-one}
-use native.Mathlib.Decide.{decLt}
-use lib.ListN.{length, getD, drop, drop-of-length-le, length-drop}
-use lib.Seq.{drop-cons, drop-drop, getD-drop}
-use lib.Dec.{T, eqb, ltb}
-use borrow.Author.Tests.{eqb-true, eqb-false, lt-ltb, le-ltb, ne-eqb}
+use lib.ListN.{length, getD, take, drop, length-drop, drop-of-length-le, length-append}
+use lib.Seq.{drop-drop, take-at, drop-at}
+use lib.Dec.{leb, ltb}
+use borrow.Author.Tests.{ne-eqb, lt-ltb, le-leb, lt-leb}
+use Rattle.spelling.specs.Spelling.{lower, run, word}
+use Rattle.spelling.proofs.SpellingLaws.{Lower, is-lower-case, run-whole}
 use Rattle.token.specs.declared.Modal.{Modal}
 use Rattle.token.specs.declared.Tok.{Tok}
-use Rattle.token.specs.declared.Tok.the-variants.{End, Operator}
+use Rattle.token.specs.declared.Tok.the-variants.{End, Zero, One, Letter, Capital, Operator, Infix, Not, Open, Close, OpenBrace, CloseBrace, Comma, Other}
 use Rattle.token.specs.declared.Pair.{Pair}
 use Rattle.token.specs.declared.Pair.the-variants.{Is, No}
-use Rattle.token.specs.Token.{pick, spaces, skip, singleOf, pairOf, pairAt, tokenFrom, tokenAt, least}
-use Rattle.token.specs.Tokens.{begins, tokens}
-use Rattle.token.proofs.Tokens.{least-single}
+use Rattle.token.specs.declared.Token.{Token}
+use Rattle.token.specs.Token.{pick, spaces, skip, signOf, upper, pairOf, pairOn, placed, runFront, plainFront, aloneBy, aloneFront, headFront, frontBy, tokenBy, tokenAt, innerAt, onCloseBrace, onEnd, least, Taken}
+use Rattle.token.specs.Tokens.{within, readAt, tokensBy, tokensIn, tokens}
+use Rattle.token.proofs.Tokens.{front-capital, front-plain, token-is, inner-is, token-end, inner-end}
 
 -- the first of some tokens, where there is one, and those after it
 abbrev pub first : List Tok → Tok
@@ -29,170 +31,277 @@ abbrev pub later : List Tok → List Tok
 later [] = []
 later (k ∷ r) = r
 
+-- ---- the end, or a token
+-- a token that is no end has a byte, and more may follow it
+pub record Some (k : Tok) : Type 0 where
+  pub least-one : least k ≡ 1
+  pub goes-on : (a b : List Tok) → onEnd k a b ≡ b
+
+some : (k : Tok) → least k ≡ 1 → ((a b : List Tok) → onEnd k a b ≡ b) → (k ≡ End) ⊎ Some k
+some k l f = inr (record { least-one = l; goes-on = f })
+
+end-or-some : (k : Tok) → (k ≡ End) ⊎ Some k
+end-or-some End = inl refl
+end-or-some Zero = some Zero refl (λ a b. refl)
+end-or-some One = some One refl (λ a b. refl)
+end-or-some (Letter k) = some (Letter k) refl (λ a b. refl)
+end-or-some (Capital k) = some (Capital k) refl (λ a b. refl)
+end-or-some (Operator m) = some (Operator m) refl (λ a b. refl)
+end-or-some (Infix l) = some (Infix l) refl (λ a b. refl)
+end-or-some Not = some Not refl (λ a b. refl)
+end-or-some Open = some Open refl (λ a b. refl)
+end-or-some Close = some Close refl (λ a b. refl)
+end-or-some OpenBrace = some OpenBrace refl (λ a b. refl)
+end-or-some CloseBrace = some CloseBrace refl (λ a b. refl)
+end-or-some Comma = some Comma refl (λ a b. refl)
+end-or-some Other = some Other refl (λ a b. refl)
+
+-- ---- one token after the other
+module _ (i : Bool) (s : List ℕ) where
+  abbrev t : Token
+  t = readAt i s 0
+
+  whole : (i : Bool) → Taken (readAt i s 0) s 0 (readAt i s 0)
+  whole true = inner-is s 0 (innerAt s 0) (omega arith) refl
+  whole false = token-is s 0 (tokenAt s 0) (omega arith) refl
+
+  -- a token takes a byte at least, and no more than there are
+  shorter : Some (t .tok) → length (drop (t .next) s) < length s
+  shorter h = let w = whole i in let l = h .least-one in omega (arith, w .past, w .inside, length-drop (t .next) s)
+
+  by-end : (n : ℕ) → t .tok ≡ End → tokensBy n i s ≡ []
+  unfolding tokensBy
+  by-end ℕ.zero e = refl
+  by-end (suc n) e = rw e refl
+
+  by-some : (n : ℕ) → Some (t .tok) → tokensBy (suc n) i s ≡ t .tok ∷ tokensBy n (within i (t .tok)) (drop (t .next) s)
+  unfolding tokensBy
+  by-some n h = h .goes-on _ _
+
+-- it does not matter how many there may be at most, if as many as there are bytes
+enough : (m n : ℕ) (i : Bool) (s : List ℕ) → length s ≤ m → length s ≤ n → tokensBy m i s ≡ tokensBy n i s
+enough ℕ.zero n i s h k = go (end-or-some (readAt i s 0 .tok))
+  where
+    go : (readAt i s 0 .tok ≡ End) ⊎ Some (readAt i s 0 .tok) → tokensBy 0 i s ≡ tokensBy n i s
+    go (inl e) = by-end i s 0 e ∙ sym (by-end i s n e)
+    go (inr x) = let l = shorter i s x in absurd (omega arith)
+enough (suc m) ℕ.zero i s h k = go (end-or-some (readAt i s 0 .tok))
+  where
+    go : (readAt i s 0 .tok ≡ End) ⊎ Some (readAt i s 0 .tok) → tokensBy (suc m) i s ≡ tokensBy 0 i s
+    go (inl e) = by-end i s (suc m) e ∙ sym (by-end i s 0 e)
+    go (inr x) = let l = shorter i s x in absurd (omega arith)
+enough (suc m) (suc n) i s h k = go (end-or-some (readAt i s 0 .tok)) (enough m n (within i (readAt i s 0 .tok)) (drop (readAt i s 0 .next) s))
+  where
+    go : (readAt i s 0 .tok ≡ End) ⊎ Some (readAt i s 0 .tok) → (length (drop (readAt i s 0 .next) s) ≤ m → length (drop (readAt i s 0 .next) s) ≤ n → tokensBy m (within i (readAt i s 0 .tok)) (drop (readAt i s 0 .next) s) ≡ tokensBy n (within i (readAt i s 0 .tok)) (drop (readAt i s 0 .next) s)) → tokensBy (suc m) i s ≡ tokensBy (suc n) i s
+    go (inl e) rec = by-end i s (suc m) e ∙ sym (by-end i s (suc n) e)
+    go (inr x) rec = let l = shorter i s x in by-some i s m x ∙ ap (λ r. readAt i s 0 .tok ∷ r) (rec (omega arith) (omega arith)) ∙ sym (by-some i s n x)
+
+-- the tokens of bytes: none at the end, else one and those behind it
+module _ (i : Bool) (s : List ℕ) where
+  pub tokens-end : readAt i s 0 .tok ≡ End → tokensIn i s ≡ []
+  unfolding tokensIn
+  tokens-end e = by-end i s (length s) e
+
+  pub tokens-some : Some (readAt i s 0 .tok) → tokensIn i s ≡ readAt i s 0 .tok ∷ tokensIn (within i (readAt i s 0 .tok)) (drop (readAt i s 0 .next) s)
+  unfolding tokensIn
+  tokens-some h =
+      let l = shorter i s h in
+      let e : length s ≡ suc (length s - 1) = omega arith in
+      ap (λ n. tokensBy n i s) e ∙ by-some i s (length s - 1) h
+      ∙ ap (λ r. readAt i s 0 .tok ∷ r) (enough (length s - 1) (length (drop (readAt i s 0 .next) s)) (within i (readAt i s 0 .tok)) (drop (readAt i s 0 .next) s) (omega arith) (omega arith))
+
+tokens-empty : (i : Bool) → tokensIn i [] ≡ []
+unfolding tokensIn tokensBy
+tokens-empty i = refl
+
 pub tokens-none : tokens [] ≡ []
-unfolding tokens
-tokens-none = refl
+tokens-none = tokens-empty false
 
--- ---- spaces
-pair-space : (c : ℕ) → pairOf 32 c ≡ No
-unfolding pairOf
-pair-space c = refl
+read-out : (i : Bool) (s : List ℕ) (at : ℕ) → readAt i s at .tok ≡ End → length s ≤ readAt i s at .next
+read-out true s at e = inner-end s at e
+read-out false s at e = token-end s at e
 
-tokens-space : (r : List ℕ) → tokens (32 ∷ r) ≡ tokens r
-unfolding tokens
-tokens-space [] = refl
-tokens-space (c ∷ r) = rw (pair-space c) refl
+-- ---- the tokens from a position on
+-- a token at a position is the one that the bytes from there on begin with
+module _ (capital : ℕ → List ℕ → Token) (s : List ℕ) (at : ℕ) where
+  by-drop : tokenBy capital s at ≡ placed at (tokenBy capital (drop at s) 0)
+  unfolding tokenBy skip
+  by-drop =
+      let n = spaces (drop at s) in
+      let z : 0 + n ≡ n = omega arith in
+      rw (z, drop-drop n at s) (ap (λ x. record { tok = frontBy capital (drop (at + n) s) .tok; next = x }) (let e : at + n + frontBy capital (drop (at + n) s) .next ≡ at + (n + frontBy capital (drop (at + n) s) .next) = omega arith in e))
 
-tokens-spaces : (xs : List ℕ) → tokens (drop (spaces xs) xs) ≡ tokens xs
-unfolding spaces
-tokens-spaces [] = refl
-tokens-spaces (b ∷ r) = go (eqb b 32) refl (tokens-spaces r)
-  where
-    go : (t : Bool) → eqb b 32 ≡ t → tokens (drop (spaces r) r) ≡ tokens r → tokens (drop (pick t (suc (spaces r)) 0) (b ∷ r)) ≡ tokens (b ∷ r)
-    go true e h = h ∙ sym (rw (eqb-true b 32 e) (tokens-space r))
-    go false e h = refl
+read-drop : (i : Bool) (s : List ℕ) (at : ℕ) → readAt i s at ≡ placed at (readAt i (drop at s) 0)
+unfolding tokenAt innerAt
+read-drop true s at = by-drop headFront s at
+read-drop false s at = by-drop aloneFront s at
 
--- the byte after the spaces is no space
-after-spaces : (xs : List ℕ) → spaces xs < length xs → getD (drop (spaces xs) xs) 0 0 ≡ 32 → ⊥
-unfolding spaces
-after-spaces [] h e = omega arith
-after-spaces (b ∷ r) h e = go (eqb b 32) refl (after-spaces r) h e
-  where
-    go : (t : Bool) → eqb b 32 ≡ t → (spaces r < length r → getD (drop (spaces r) r) 0 0 ≡ 32 → ⊥) → pick t (suc (spaces r)) 0 < suc (length r) → getD (drop (pick t (suc (spaces r)) 0) (b ∷ r)) 0 0 ≡ 32 → ⊥
-    go true q f l e = f (omega arith) e
-    go false q f l e = eqb-false b 32 q e
-
--- the tokens from a position on, where the spaces there are left out
-skip-tokens : (s : List ℕ) (at : ℕ) → tokens (drop (skip s at) s) ≡ tokens (drop at s)
-unfolding skip
-skip-tokens s at = rw (← drop-drop (spaces (drop at s)) at s) (tokens-spaces (drop at s))
-
-skip-no-space : (s : List ℕ) (at : ℕ) → skip s at < length s → getD s (skip s at) 0 ≡ 32 → ⊥
-unfolding skip
-skip-no-space s at h e =
-    after-spaces (drop at s) (omega (arith, length-drop at s))
-    (rw (getD-drop (spaces (drop at s)) (drop at s) 0 0, getD-drop at s (spaces (drop at s) + 0) 0, add-zero (spaces (drop at s))) e)
-
--- ---- a token that is no space
-begins-ahead : (b : ℕ) (near far : List Tok) → (b ≡ 32 → ⊥) → begins b No near far ≡ singleOf b ∷ near
-begins-ahead b near far n = rw (ne-eqb b 32 n) refl
-
--- the operator that a list of bytes begins with
-abbrev pairOn : List ℕ → Pair
-pairOn [] = No
-pairOn (b ∷ []) = No
-pairOn (b ∷ (c ∷ r)) = pairOf b c
-
-pair-on : (s : List ℕ) (i : ℕ) → pairAt s i ≡ pairOn (drop i s)
-unfolding pairAt
-pair-on s i = go (decLt (i + 1) (length s)) (decLt i (length s))
-  where
-    go : Dec (i + 1 < length s) → Dec (i < length s) → pick (ltb (i + 1) (length s)) (pairOf (getD s i 0) (getD s (i + 1) 0)) No ≡ pairOn (drop i s)
-    go (yes h) (yes l) = rw (lt-ltb _ _ h, add-one i, drop-cons s i 0 l, drop-cons s (suc i) 0 (omega arith)) refl
-    go (yes h) (no l) = absurd (l (omega arith))
-    go (no h) (yes l) = rw (le-ltb (i + 1) (length s) (omega (arith, h)), drop-cons s i 0 l, drop-of-length-le s {i = suc i} (omega (arith, h))) refl
-    go (no h) (no l) = rw (le-ltb (i + 1) (length s) (omega (arith, h)), drop-of-length-le s {i = i} (omega (arith, l))) refl
-
--- the tokens from a byte on that is no space
+-- the tokens from a position on: the token there and those after it
 pub record Ahead (ts : List Tok) (k : Tok) (r : List Tok) : Type 0 where
   pub now : first ts ≡ k
   pub rest : later ts ≡ r
 
-tokens-pair : (xs : List ℕ) (m : Modal) → pairOn xs ≡ Is m → tokens xs ≡ Operator m ∷ tokens (drop 2 xs)
-unfolding tokens
-tokens-pair [] m e = let z : _≡_ {A = ℕ} 0 1 = cc in absurd (omega arith)
-tokens-pair (b ∷ []) m e = let z : _≡_ {A = ℕ} 0 1 = cc in absurd (omega arith)
-tokens-pair (b ∷ (c ∷ r)) m e = rw e refl
-
-tokens-single : (b : ℕ) (r : List ℕ) → pairOn (b ∷ r) ≡ No → (b ≡ 32 → ⊥) → tokens (b ∷ r) ≡ singleOf b ∷ tokens r
-unfolding tokens
-tokens-single b [] e n = begins-ahead b [] [] n
-tokens-single b (c ∷ r) e n = rw e (begins-ahead b (tokens (c ∷ r)) (tokens r) n)
-
-tokens-from : (s : List ℕ) (i : ℕ) (p : Pair) → i < length s → (getD s i 0 ≡ 32 → ⊥) → pairAt s i ≡ p → tokens (drop i s) ≡ tokenFrom s i p .tok ∷ tokens (drop (tokenFrom s i p .next) s)
-unfolding tokenFrom
-tokens-from s i (Is m) h n e = rw (tokens-pair (drop i s) m (sym (pair-on s i) ∙ e), drop-drop 2 i s) refl
-tokens-from s i No h n e = rw (drop-cons s i 0 h, tokens-single (getD s i 0) (drop (suc i) s) (rw (← drop-cons s i 0 h) (sym (pair-on s i) ∙ e)) n, add-one i) refl
-
--- the tokens from a position on are the token there and those after it
-pub tokens-ahead : (s : List ℕ) (at : ℕ) → Ahead (tokens (drop at s)) (tokenAt s at .tok) (tokens (drop (tokenAt s at .next) s))
-unfolding tokenAt
-tokens-ahead s at = go (decLt (skip s at) (length s))
+pub ahead : (i : Bool) (s : List ℕ) (at : ℕ) → Ahead (tokensIn i (drop at s)) (readAt i s at .tok) (tokensIn (within i (readAt i s at .tok)) (drop (readAt i s at .next) s))
+ahead i s at = go (end-or-some (readAt i (drop at s) 0 .tok))
   where
-    here : tokens (drop (skip s at) s) ≡ tokens (drop at s)
-    here = skip-tokens s at
+    same : readAt i s at ≡ placed at (readAt i (drop at s) 0)
+    same = read-drop i s at
 
-    go : Dec (skip s at < length s) → Ahead (tokens (drop at s)) (tokenAt s at .tok) (tokens (drop (tokenAt s at .next) s))
-    go (yes h) = rw (lt-ltb _ _ h) (rw (← here, tokens-from s (skip s at) (pairAt s (skip s at)) h (skip-no-space s at h) refl) (record { now = refl; rest = refl }))
-    go (no h) = rw (le-ltb (skip s at) (length s) (omega (arith, h)), ← here, drop-of-length-le s {i = skip s at} (omega (arith, h)), tokens-none) (record { now = refl; rest = refl })
+    go : (readAt i (drop at s) 0 .tok ≡ End) ⊎ Some (readAt i (drop at s) 0 .tok) → Ahead (tokensIn i (drop at s)) (readAt i s at .tok) (tokensIn (within i (readAt i s at .tok)) (drop (readAt i s at .next) s))
+    go (inl e) =
+        let f : readAt i s at .tok ≡ End = ap (λ t. t .tok) same ∙ e in
+        rw (tokens-end i (drop at s) e, f, drop-of-length-le s {i = readAt i s at .next} (read-out i s at f), tokens-empty i) (record { now = refl; rest = refl })
+    go (inr x) = rw (same, tokens-some i (drop at s) x, drop-drop (readAt i (drop at s) 0 .next) at s) (record { now = refl; rest = refl })
 
--- each token has a byte
-begins-length : (b : ℕ) (p : Pair) (near far : List Tok) (n : ℕ) → length near ≤ n → length far ≤ n → length (begins b p near far) ≤ suc n
-begins-length b (Is m) near far n h g = omega arith
-begins-length b No near far n h g = go (eqb b 32)
+-- a token has a byte
+by-length : (n : ℕ) (i : Bool) (s : List ℕ) → length (tokensBy n i s) ≤ n
+unfolding tokensBy
+by-length ℕ.zero i s = omega arith
+by-length (suc n) i s = go (end-or-some (readAt i s 0 .tok)) (by-length n (within i (readAt i s 0 .tok)) (drop (readAt i s 0 .next) s))
   where
-    go : (t : Bool) → length (pick t near (singleOf b ∷ near)) ≤ suc n
-    go true = omega arith
-    go false = omega arith
+    go : (readAt i s 0 .tok ≡ End) ⊎ Some (readAt i s 0 .tok) → length (tokensBy n (within i (readAt i s 0 .tok)) (drop (readAt i s 0 .next) s)) ≤ n → length (tokensBy (suc n) i s) ≤ suc n
+    go (inl e) h = rw (by-end i s (suc n) e) (omega arith)
+    go (inr x) h = rw (by-some i s n x) (omega arith)
 
 pub tokens-length : (s : List ℕ) → length (tokens s) ≤ length s
-unfolding tokens
-tokens-length [] = omega arith
-tokens-length (b ∷ []) = begins-length b No [] [] 0 (omega arith) (omega arith)
-tokens-length (b ∷ (c ∷ r)) =
-    let h = tokens-length (c ∷ r) in
-    let g = tokens-length r in
-    begins-length b (pairOf b c) (tokens (c ∷ r)) (tokens r) (suc (length r)) h (omega arith)
+unfolding tokensIn
+tokens-length s = by-length (length s) false s
 
 -- the line's end is no token of the line
 abbrev pub NoEnd : List Tok → Type 0
 NoEnd [] = Unit {0}
 NoEnd (k ∷ r) = (k ≡ End → ⊥) × NoEnd r
 
-single-no-end : (b : ℕ) → singleOf b ≡ End → ⊥
-single-no-end b e = let h : least End ≡ 1 = sym (ap least e) ∙ least-single b in omega arith
+no-end : {k : Tok} → Some k → k ≡ End → ⊥
+no-end h e = let z : least End ≡ 1 = sym (ap least e) ∙ h .least-one in omega arith
 
-begins-no-end : (b : ℕ) (p : Pair) (near far : List Tok) → NoEnd near → NoEnd far → NoEnd (begins b p near far)
-begins-no-end b (Is m) near far h g = ((λ e. let z : _≡_ {A = ℕ} 0 1 = cc in omega arith), g)
-begins-no-end b No near far h g = go (eqb b 32)
+by-no-end : (n : ℕ) (i : Bool) (s : List ℕ) → NoEnd (tokensBy n i s)
+unfolding tokensBy
+by-no-end ℕ.zero i s = tt
+by-no-end (suc n) i s = go (end-or-some (readAt i s 0 .tok)) (by-no-end n (within i (readAt i s 0 .tok)) (drop (readAt i s 0 .next) s))
   where
-    go : (t : Bool) → NoEnd (pick t near (singleOf b ∷ near))
-    go true = h
-    go false = (single-no-end b, h)
+    go : (readAt i s 0 .tok ≡ End) ⊎ Some (readAt i s 0 .tok) → NoEnd (tokensBy n (within i (readAt i s 0 .tok)) (drop (readAt i s 0 .next) s)) → NoEnd (tokensBy (suc n) i s)
+    go (inl e) h = rw (by-end i s (suc n) e) tt
+    go (inr x) h = rw (by-some i s n x) (no-end x, h)
 
 pub tokens-no-end : (s : List ℕ) → NoEnd (tokens s)
-unfolding tokens
-tokens-no-end [] = tt
-tokens-no-end (b ∷ []) = begins-no-end b No [] [] tt tt
-tokens-no-end (b ∷ (c ∷ r)) = begins-no-end b (pairOf b c) (tokens (c ∷ r)) (tokens r) (tokens-no-end (c ∷ r)) (tokens-no-end r)
+unfolding tokensIn
+tokens-no-end s = by-no-end (length s) false s
 
 pub rest-no-end : (ts r : List Tok) → NoEnd (ts ++ r) → NoEnd r
 rest-no-end [] r h = h
 rest-no-end (k ∷ ts) r h = rest-no-end ts r (h .1)
 
 -- ---- tokens of bytes in hand
--- a byte that is no space and begins no operator of two letters
-abbrev pub plain : ℕ → Bool
-plain b = not (eqb b 32) && (not (eqb b 65) && not (eqb b 69))
+abbrev capitalOf : Bool → ℕ → List ℕ → Token
+capitalOf true = headFront
+capitalOf false = aloneFront
 
-plain-alone : (b : ℕ) (r : List ℕ) → T (plain b) → (pairOn (b ∷ r) ≡ No) × (b ≡ 32 → ⊥)
-unfolding pairOf
-plain-alone b r h = go (eqb b 32) (eqb b 65) (eqb b 69) refl refl refl h r
+read-front : (i : Bool) (b : ℕ) (r : List ℕ) → (b ≡ 32 → ⊥) → readAt i (b ∷ r) 0 ≡ placed 0 (frontBy (capitalOf i) (b ∷ r))
+unfolding tokenAt innerAt tokenBy skip spaces
+read-front true b r n = rw (ne-eqb b 32 n) refl
+read-front false b r n = rw (ne-eqb b 32 n) refl
+
+-- a byte that is no space, and the token that it begins
+module _ (i : Bool) (b : ℕ) (r : List ℕ) (n : b ≡ 32 → ⊥) where
+  tokens-by : (k : Tok) (m : ℕ) → Some k → frontBy (capitalOf i) (b ∷ r) ≡ record { tok = k; next = m } → tokensIn i (b ∷ r) ≡ k ∷ tokensIn (within i k) (drop m (b ∷ r))
+  tokens-by k m x e =
+      let z : 0 + m ≡ m = omega arith in
+      let f : readAt i (b ∷ r) 0 ≡ record { tok = k; next = m } = read-front i b r n ∙ ap (placed 0) e ∙ ap (λ j. record { tok = k; next = j }) z in
+      tokens-some i (b ∷ r) (rw f x) ∙ rw f refl
+
+  -- a sign
+  pub sign-token : (k : Tok) → Some k → upper b ≡ false → lower b ≡ false → signOf b ≡ k → tokensIn i (b ∷ r) ≡ k ∷ tokensIn (within i k) r
+  unfolding plainFront
+  sign-token k x u l e = tokens-by k 1 x (front-plain (capitalOf i) b r u ∙ rw (l, e) refl)
+
+and-false : (x : Bool) → (x && false) ≡ false
+and-false true = refl
+and-false false = refl
+
+-- a symbol, before what is no letter
+pub symbol-token : (i : Bool) (b : ℕ) (w r : List ℕ) → Lower (b ∷ w) → length (b ∷ w) ≤ 8 → run r ≡ 0 → tokensIn i (b ∷ (w ++ r)) ≡ Letter (word (b ∷ w)) ∷ tokensIn i r
+unfolding plainFront runFront
+symbol-token i b w r l h e =
+    let lo = l .0 .0 in
+    let size : run ((b ∷ w) ++ r) ≡ length (b ∷ w) = run-whole (b ∷ w) r l e in
+    let u : upper b ≡ false = rw (lt-leb b 90 (omega arith)) (and-false (leb 65 b)) in
+    tokens-by i b (w ++ r) (λ q. omega arith) (Letter (word (b ∷ w))) (length (b ∷ w)) (record { least-one = refl; goes-on = λ x y. refl })
+    (front-plain (capitalOf i) b (w ++ r) u ∙ rw (is-lower-case b lo (l .0 .1), size, le-leb (length (b ∷ w)) 8 h, take-at (b ∷ w) r (length (b ∷ w)) refl) refl)
+    ∙ ap (λ x. Letter (word (b ∷ w)) ∷ tokensIn i x) (drop-at (b ∷ w) r (length (b ∷ w)) refl)
+
+-- a capital is no space
+capital-no-space : (b : ℕ) → 65 ≤ b → b ≡ 32 → ⊥
+capital-no-space b h e = omega arith
+
+module _ (b : ℕ) (lo : 65 ≤ b) (hi : b ≤ 90) where
+  is-upper : upper b ≡ true
+  is-upper = rw (le-leb 65 b lo, le-leb b 90 hi) refl
+
+  -- outside braces: alone, or the first of an operator's two letters
+  pub capital-token : (r : List ℕ) → pairOn b r ≡ No → tokens (b ∷ r) ≡ Capital (b + 32) ∷ tokens r
+  unfolding aloneFront
+  capital-token r e =
+      tokens-by false b r (capital-no-space b lo) (Capital (b + 32)) 1 (record { least-one = refl; goes-on = λ x y. refl })
+      (front-capital aloneFront b r is-upper ∙ rw e refl)
+
+  pub operator-token : (c : ℕ) (m : Modal) (r : List ℕ) → pairOf b c ≡ Is m → tokens (b ∷ (c ∷ r)) ≡ Operator m ∷ tokens r
+  unfolding aloneFront
+  operator-token c m r e =
+      tokens-by false b (c ∷ r) (capital-no-space b lo) (Operator m) 2 (record { least-one = refl; goes-on = λ x y. refl })
+      (front-capital aloneFront b (c ∷ r) is-upper ∙ rw e refl)
+
+  -- in braces: with the letters behind it, before what is no letter
+  pub back-token : (w r : List ℕ) → Lower w → length w ≤ 7 → run r ≡ 0 → tokensIn true (b ∷ (w ++ r)) ≡ Capital (word ((b + 32) ∷ w)) ∷ tokensIn true r
+  unfolding headFront
+  back-token w r l h e =
+      let size : run (w ++ r) ≡ length w = run-whole w r l e in
+      let z : length w + 1 ≡ suc (length w) = omega arith in
+      tokens-by true b (w ++ r) (capital-no-space b lo) (Capital (word ((b + 32) ∷ w))) (suc (length w)) (record { least-one = refl; goes-on = λ x y. refl })
+      (front-capital headFront b (w ++ r) is-upper ∙ rw (size, lt-ltb (length w) 8 (omega arith), take-at w r (length w) refl, z) refl)
+      ∙ ap (λ x. Capital (word ((b + 32) ∷ w)) ∷ tokensIn true x) (drop-at w r (length w) refl)
+
+-- ---- a closing brace is the same to both readers: they differ only in what a capital begins
+module _ {B : Type 0} (x y : B) where
+  head-opens : (b : ℕ) (r : List ℕ) → onCloseBrace (headFront b r .tok) x y ≡ y
+  unfolding headFront
+  head-opens b r = go (ltb (run r) 8)
+    where
+      go : (t : Bool) → onCloseBrace (pick t (Capital (word ((b + 32) ∷ take (run r) r))) Other) x y ≡ y
+      go true = refl
+      go false = refl
+
+  alone-opens : (b : ℕ) (r : List ℕ) → onCloseBrace (aloneFront b r .tok) x y ≡ y
+  unfolding aloneFront
+  alone-opens b r = go (pairOn b r)
+    where
+      go : (p : Pair) → onCloseBrace (aloneBy b p .tok) x y ≡ y
+      go (Is m) = refl
+      go No = refl
+
+  front-closing : (xs : List ℕ) → onCloseBrace (frontBy headFront xs .tok) x y ≡ onCloseBrace (frontBy aloneFront xs .tok) x y
+  unfolding frontBy
+  front-closing [] = refl
+  front-closing (b ∷ r) = go (upper b)
+    where
+      go : (t : Bool) → onCloseBrace (pick t (headFront b r) (plainFront b r) .tok) x y ≡ onCloseBrace (pick t (aloneFront b r) (plainFront b r) .tok) x y
+      go true = head-opens b r ∙ sym (alone-opens b r)
+      go false = refl
+
+  pub closing-same : (s : List ℕ) (at : ℕ) → onCloseBrace (innerAt s at .tok) x y ≡ onCloseBrace (tokenAt s at .tok) x y
+  unfolding innerAt tokenAt tokenBy
+  closing-same s at = front-closing (drop (skip s at) s)
+
+pub closing-inner : (s : List ℕ) (at : ℕ) → tokenAt s at .tok ≡ CloseBrace → innerAt s at ≡ tokenAt s at
+unfolding innerAt tokenAt tokenBy
+closing-inner s at e = ap (placed (skip s at)) (go (drop (skip s at) s) e)
   where
-    go : (x y z : Bool) → eqb b 32 ≡ x → eqb b 65 ≡ y → eqb b 69 ≡ z → T (not x && (not y && not z)) → (r : List ℕ) → (pairOn (b ∷ r) ≡ No) × (b ≡ 32 → ⊥)
-    go false false false e f g h [] = (refl, eqb-false b 32 e)
-    go false false false e f g h (c ∷ r) = (rw (f, g) refl, eqb-false b 32 e)
-    go false false true e f g h r = absurd h
-    go false true z e f g h r = absurd h
-    go true y z e f g h r = absurd h
-
-pub tokens-plain : (b : ℕ) (k : Tok) (r : List ℕ) → T (plain b) → singleOf b ≡ k → tokens (b ∷ r) ≡ k ∷ tokens r
-tokens-plain b k r h e = let a = plain-alone b r h in tokens-single b r (a .0) (a .1) ∙ ap (λ x. x ∷ tokens r) e
-
--- a byte before one that ends no operator of two letters
-pub tokens-before : (b c : ℕ) (k : Tok) (r : List ℕ) → (b ≡ 32 → ⊥) → pairOf b c ≡ No → singleOf b ≡ k → tokens (b ∷ c ∷ r) ≡ k ∷ tokens (c ∷ r)
-tokens-before b c k r n h e = tokens-single b (c ∷ r) h n ∙ ap (λ x. x ∷ tokens (c ∷ r)) e
-
--- an operator of two letters
-pub tokens-operator : (b c : ℕ) (m : Modal) (r : List ℕ) → pairOf b c ≡ Is m → tokens (b ∷ c ∷ r) ≡ Operator m ∷ tokens r
-tokens-operator b c m r h = tokens-pair (b ∷ c ∷ r) m h
+    go : (xs : List ℕ) → frontBy aloneFront xs .tok ≡ CloseBrace → frontBy headFront xs ≡ frontBy aloneFront xs
+    go [] e = refl
+    go (b ∷ r) e = by (upper b) refl
+      where
+        by : (t : Bool) → upper b ≡ t → frontBy headFront (b ∷ r) ≡ frontBy aloneFront (b ∷ r)
+        by true u =
+            let z = sym (alone-opens {B = ℕ} 0 1 b r) ∙ ap (λ k. onCloseBrace k 0 1) (ap (λ t. t .tok) (sym (front-capital aloneFront b r u)) ∙ e) in
+            absurd (omega arith)
+        by false u = front-plain headFront b r u ∙ sym (front-plain aloneFront b r u)

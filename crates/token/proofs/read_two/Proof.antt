@@ -1,4 +1,4 @@
--- `token::read_two` meets its contract: a walk of its MIR, by hand. One `Reader`, held in a local, takes a token, moves on behind it and takes the next. All that the proof knows of the callees is that each meets its contract (`Calls` for two of them).
+-- `token::read_two` meets its contract: a walk of its MIR, by hand. One `Reader`, held in a local, takes a token, moves on behind it and takes the inner. All that the proof knows of the callees is that each meets its contract (`Calls` for two of them).
 -- A `Reader` and a `Token` are Copy: what each owns is had twice where it is passed twice. A machine value that a call returns is stored and passed on as it is; in a local of a body MIR erases the lifetime of the struct's type.
 -- Assumes nothing.
 use mathlib.Core.Path.{_≡_, refl, sym, ap, _∙_}
@@ -36,7 +36,7 @@ use denote.Triple.Table.{entered, cited}
 use denote.Triple.Walked.{says, Stays, stay-none-slice, walkOf, goes-none-slice, Walks, ends-at, walked, walk-meets, stay-none, goes-none}
 use denote.Exit.{yes}
 use denote.Triple.Clauses.{ensured, lasts}
-use Rattle.token.specs.Token.{tokenAt}
+use Rattle.token.specs.Token.{innerAt}
 use Rattle.token.specs.declared.Reader.{Reader}
 use Rattle.token.specs.declared.Token.{Token}
 use Rattle.token.proofs.Reader as T
@@ -46,15 +46,15 @@ use Rattle.token.proofs.Two as P
 use Rattle.token.proofs.Two.Laws as P′
 use Rattle.token.proofs.Token as S
 use Rattle.token.proofs.Token.Laws as S′
-use Rattle.token.proofs.Calls.{B, New, Next, to-new, goes-new, new-said, to-next, goes-next, next-said, typed}
+use Rattle.token.proofs.Calls.{B, New, Inner, to-new, goes-new, new-said, to-inner, goes-inner, inner-said, typed}
 use Rattle.token.proofs.reader_on as new
 use Rattle.token.proofs.reader_on.Symbol as new-def
 use Rattle.token.proofs.reader_on.Symbol.{name as #token·reader-on}
 use Rattle.token.proofs.reader_on.Met as new-thm
-use Rattle.token.proofs.take_token as next
-use Rattle.token.proofs.take_token.Symbol as next-def
-use Rattle.token.proofs.take_token.Symbol.{name as #token·take-token}
-use Rattle.token.proofs.take_token.Met as next-thm
+use Rattle.token.proofs.take_inner as inner
+use Rattle.token.proofs.take_inner.Symbol as inner-def
+use Rattle.token.proofs.take_inner.Symbol.{name as #token·take-inner}
+use Rattle.token.proofs.take_inner.Met as inner-thm
 use Rattle.token.proofs.moved as moved
 use Rattle.token.proofs.moved.Symbol as moved-def
 use Rattle.token.proofs.moved.Symbol.{name as #token·moved}
@@ -73,14 +73,14 @@ stayed = (stay-none-slice (0 ∷ []) tt (plain (λ _. u8)) yes, (stay-none (λ _
 
 -- what `read_two` says of its result
 abbrev Found : RefT (List ℕ) → ℕ → Two → Type 0
-Found s n x = (x .first ≡ tokenAt (now s) n) × (x .second ≡ tokenAt (now s) (x .first .next))
+Found s n x = (x .first ≡ innerAt (now s) n) × (x .second ≡ innerAt (now s) (x .first .next))
 
 -- the two tokens of one reader: r is on s at n, and q is r behind its first token
-found : {s : RefT (List ℕ)} {n : ℕ} {r q : Reader} {t t′ : Token} {x : Two} → (r .line ≡ s) × (r .at ≡ n) → t ≡ tokenAt (now (r .line)) (r .at)
-    → (q .line ≡ r .line) × (q .at ≡ t .next) → t′ ≡ tokenAt (now (q .line)) (q .at) → (x .first ≡ t) × (x .second ≡ t′) → Found s n x
+found : {s : RefT (List ℕ)} {n : ℕ} {r q : Reader} {t t′ : Token} {x : Two} → (r .line ≡ s) × (r .at ≡ n) → t ≡ innerAt (now (r .line)) (r .at)
+    → (q .line ≡ r .line) × (q .at ≡ t .next) → t′ ≡ innerAt (now (q .line)) (q .at) → (x .first ≡ t) × (x .second ≡ t′) → Found s n x
 found {s} {r} {q} on a moved b x = (
-  x .0 ∙ a ∙ ap (λ (y : RefT (List ℕ)). tokenAt (now y) (r .at)) (on .0) ∙ ap (tokenAt (now s)) (on .1),
-  x .1 ∙ b ∙ ap (λ (y : RefT (List ℕ)). tokenAt (now y) (q .at)) (moved .0 ∙ on .0) ∙ ap (tokenAt (now s)) (moved .1 ∙ ap (λ (y : Token). y .next) (sym (x .0))),
+  x .0 ∙ a ∙ ap (λ (y : RefT (List ℕ)). innerAt (now y) (r .at)) (on .0) ∙ ap (innerAt (now s)) (on .1),
+  x .1 ∙ b ∙ ap (λ (y : RefT (List ℕ)). innerAt (now y) (q .at)) (moved .0 ∙ on .0) ∙ ap (innerAt (now s)) (moved .1 ∙ ap (λ (y : Token). y .next) (sym (x .0))),
 )
 
 module _ {M : Type 1} (𝓤 : URA M) (H : Heap 𝓤) (A : Atoms 𝓤) (mem : Memory → SProp 𝓤) (run : Routine → Fun 𝓤) where
@@ -150,7 +150,7 @@ module _ {M : Type 1} (𝓤 : URA M) (H : Heap 𝓤) (A : Atoms 𝓤) (W : Given
       suffices ! _ (ends-at 𝓤 H A pair.ended stayed (pair.clauses 𝓤 H A mem run) W (((κ, tt), (q, tt), tt, (s, (n, tt)), at), tt) u x (tt, (tt, tt)) (tt, (tt, tt))) $ says ! e $
       move ! (1 ∷ []) $ frame ! $ nothing ! $ owned ! usize (Is usize) (uint-makes 𝓤 H A W w64) n _ (refl, ok) $ fjoin ! $ move ! (2 ∷ 0 ∷ []) $ fjoin ! $ frame ! $ done !
 
-  module _ (C : Calls 𝓤 H) (Λ : Loops 𝓤 H) (fm : FmC 𝓤 H (W .laws) C) (known-new : Triple 𝓤 (C #token·reader-on) (New 𝓤 H A mem run)) (known-next : Triple 𝓤 (C #token·take-token) (Next 𝓤 H A mem run)) (known-moved : Triple 𝓤 (C #token·moved) (Moved 𝓤 H A mem run)) (known-both : Triple 𝓤 (C #token·both) (Both 𝓤 H A mem run)) where
+  module _ (C : Calls 𝓤 H) (Λ : Loops 𝓤 H) (fm : FmC 𝓤 H (W .laws) C) (known-new : Triple 𝓤 (C #token·reader-on) (New 𝓤 H A mem run)) (known-inner : Triple 𝓤 (C #token·take-inner) (Inner 𝓤 H A mem run)) (known-moved : Triple 𝓤 (C #token·moved) (Moved 𝓤 H A mem run)) (known-both : Triple 𝓤 (C #token·both) (Both 𝓤 H A mem run)) where
     walk : Is (ShrSlice (named 0) κ u8) s (v ∷ []) → ent 𝓤 (onEntry 𝓤 H A pair.signature (κ, tt) (q, tt) (s, (n, tt)) at) (WpFn 𝓤 H C Λ code.function (v ∷ vint w64 n ∷ []) Post)
     walk p =
         qed W (raw (onEntry 𝓤 H A pair.signature (κ, tt) (q, tt) (s, (n, tt)) at) ∷ []) ∵ enter ! C Λ code.function (v ∷ vint w64 n ∷ []) _ $
@@ -165,11 +165,11 @@ module _ {M : Type 1} (𝓤 : URA M) (H : Heap 𝓤) (A : Atoms 𝓤) (W : Given
         peeks ! (B (κ, tt)) (Is (B (κ, tt))) (shows 𝓤 H A (B (κ, tt))) r (u ∷ []) (λ is.
         land ! (from ! (stop !)) (init ! 13 refl (typed 𝓤 H A W mem run κ q r u is)) $
         assigns ! (of-opd ! (load ! (from ! (stop !)) (look ! 13 refl))) (from ! (stop !)) (init ! 7 refl (typed 𝓤 H A W mem run κ q r u is)) $
-        use1 W (‵ (OwnR r u) ⊛ ‵ (OwnR r u)) (reader-twice r u) $ split ! $ move ! (0 ∷ 2 ∷ []) $ use2 W (raw (Next 𝓤 H A mem run .pre (to-next 𝓤 H A W mem run κ q r u))) (goes-next 𝓤 H A W mem run κ q r u) $
-        -- [what `take_token` asks; what the reader owns; what s owns; _8; …]
-        calls-at ! fm (Next 𝓤 H A mem run) known-next (to-next 𝓤 H A W mem run κ q r u) (and-then ! (load ! (from ! (stop !)) (look ! 7 refl)) (no-more !)) (λ w.
-        use1 W (later (some (λ (t : Token). ((‵ (flft κ q) ⊛ ‵ ftrue) ⊛ ‵ (OwnT t w)) ⊛ raw (ensured 𝓤 H A next.ended (next.clauses 𝓤 H A mem run) (κ, tt) (r, tt) tt t)))) (id⊢ 𝓤 _) $ await ! tt $ pick ! (λ t.
-        split ! $ move ! (1 ∷ []) $ use1 W (raw (fact 𝓤 (t ≡ tokenAt (now (r .line)) (r .at)))) (next-said 𝓤 H A W mem run κ q r t) $ heard ! (t ≡ tokenAt (now (r .line)) (r .at)) (λ a. split ! $ move ! (1 ∷ []) $
+        use1 W (‵ (OwnR r u) ⊛ ‵ (OwnR r u)) (reader-twice r u) $ split ! $ move ! (0 ∷ 2 ∷ []) $ use2 W (raw (Inner 𝓤 H A mem run .pre (to-inner 𝓤 H A W mem run κ q r u))) (goes-inner 𝓤 H A W mem run κ q r u) $
+        -- [what `take_inner` asks; what the reader owns; what s owns; _8; …]
+        calls-at ! fm (Inner 𝓤 H A mem run) known-inner (to-inner 𝓤 H A W mem run κ q r u) (and-then ! (load ! (from ! (stop !)) (look ! 7 refl)) (no-more !)) (λ w.
+        use1 W (later (some (λ (t : Token). ((‵ (flft κ q) ⊛ ‵ ftrue) ⊛ ‵ (OwnT t w)) ⊛ raw (ensured 𝓤 H A inner.ended (inner.clauses 𝓤 H A mem run) (κ, tt) (r, tt) tt t)))) (id⊢ 𝓤 _) $ await ! tt $ pick ! (λ t.
+        split ! $ move ! (1 ∷ []) $ use1 W (raw (fact 𝓤 (t ≡ innerAt (now (r .line)) (r .at)))) (inner-said 𝓤 H A W mem run κ q r t) $ heard ! (t ≡ innerAt (now (r .line)) (r .at)) (λ a. split ! $ move ! (1 ∷ []) $
         -- [what the first token owns; the lifetime's token; what the reader owns; what s owns; _8; …]
         peeks ! S.the-row (Is S.the-row) (shows 𝓤 H A S.the-row) t (w ∷ []) (λ is₁.
         land ! (from ! (stop !)) (init ! 12 refl (LL.lawful S.the-type S′.the-laws 𝓤 H A W .typed t _ is₁ .0)) $
@@ -182,10 +182,10 @@ module _ {M : Type 1} (𝓤 : URA M) (H : Heap 𝓤) (A : Atoms 𝓤) (W : Given
         split ! $ move ! (1 ∷ []) $ use1 W (raw (fact 𝓤 (Moves r t r′))) (moved-said r t r′) $ heard ! (Moves r t r′) (λ on′. split ! $ move ! (1 ∷ []) $
         peeks ! (B (κ, tt)) (Is (B (κ, tt))) (shows 𝓤 H A (B (κ, tt))) r′ (u′ ∷ []) (λ is₂.
         land ! (from ! (stop !)) (init ! 6 refl (typed 𝓤 H A W mem run κ q r′ u′ is₂)) $
-        use2 W (raw (Next 𝓤 H A mem run .pre (to-next 𝓤 H A W mem run κ q r′ u′))) (goes-next 𝓤 H A W mem run κ q r′ u′) $
-        calls-at ! fm (Next 𝓤 H A mem run) known-next (to-next 𝓤 H A W mem run κ q r′ u′) (and-then ! (load ! (from ! (stop !)) (look ! 5 refl)) (no-more !)) (λ w′.
-        use1 W (later (some (λ (t′ : Token). ((‵ (flft κ q) ⊛ ‵ ftrue) ⊛ ‵ (OwnT t′ w′)) ⊛ raw (ensured 𝓤 H A next.ended (next.clauses 𝓤 H A mem run) (κ, tt) (r′, tt) tt t′)))) (id⊢ 𝓤 _) $ await ! tt $ pick ! (λ t′.
-        split ! $ move ! (1 ∷ []) $ use1 W (raw (fact 𝓤 (t′ ≡ tokenAt (now (r′ .line)) (r′ .at)))) (next-said 𝓤 H A W mem run κ q r′ t′) $ heard ! (t′ ≡ tokenAt (now (r′ .line)) (r′ .at)) (λ b. split ! $ move ! (1 ∷ []) $
+        use2 W (raw (Inner 𝓤 H A mem run .pre (to-inner 𝓤 H A W mem run κ q r′ u′))) (goes-inner 𝓤 H A W mem run κ q r′ u′) $
+        calls-at ! fm (Inner 𝓤 H A mem run) known-inner (to-inner 𝓤 H A W mem run κ q r′ u′) (and-then ! (load ! (from ! (stop !)) (look ! 5 refl)) (no-more !)) (λ w′.
+        use1 W (later (some (λ (t′ : Token). ((‵ (flft κ q) ⊛ ‵ ftrue) ⊛ ‵ (OwnT t′ w′)) ⊛ raw (ensured 𝓤 H A inner.ended (inner.clauses 𝓤 H A mem run) (κ, tt) (r′, tt) tt t′)))) (id⊢ 𝓤 _) $ await ! tt $ pick ! (λ t′.
+        split ! $ move ! (1 ∷ []) $ use1 W (raw (fact 𝓤 (t′ ≡ innerAt (now (r′ .line)) (r′ .at)))) (inner-said 𝓤 H A W mem run κ q r′ t′) $ heard ! (t′ ≡ innerAt (now (r′ .line)) (r′ .at)) (λ b. split ! $ move ! (1 ∷ []) $
         -- [what the second token owns; the lifetime's token; what the first owns; what s owns; _8; …]
         peeks ! S.the-row (Is S.the-row) (shows 𝓤 H A S.the-row) t′ (w′ ∷ []) (λ is₃.
         land ! (from ! (stop !)) (init ! 10 refl (LL.lawful S.the-type S′.the-laws 𝓤 H A W .typed t′ _ is₃ .0)) $
@@ -202,16 +202,16 @@ module _ {M : Type 1} (𝓤 : URA M) (H : Heap 𝓤) (A : Atoms 𝓤) (W : Given
         by ! (exits x z (found on a on′ b e)))))))))))))))))))))))))))))))
 
 module _ {M : Type 1} (𝓤 : URA M) (H : Heap 𝓤) (A : Atoms 𝓤) (W : Given 𝓤 H A) (mem : Memory → SProp 𝓤) (run : Routine → Fun 𝓤) where
-  pair-walks : (C : Calls 𝓤 H) (Λ : Loops 𝓤 H) → FmC 𝓤 H (W .laws) C → Triple 𝓤 (C #token·reader-on) (New 𝓤 H A mem run) → Triple 𝓤 (C #token·take-token) (Next 𝓤 H A mem run) → Triple 𝓤 (C #token·moved) (Moved 𝓤 H A mem run) → Triple 𝓤 (C #token·both) (Both 𝓤 H A mem run)
+  pair-walks : (C : Calls 𝓤 H) (Λ : Loops 𝓤 H) → FmC 𝓤 H (W .laws) C → Triple 𝓤 (C #token·reader-on) (New 𝓤 H A mem run) → Triple 𝓤 (C #token·take-inner) (Inner 𝓤 H A mem run) → Triple 𝓤 (C #token·moved) (Moved 𝓤 H A mem run) → Triple 𝓤 (C #token·both) (Both 𝓤 H A mem run)
       → Walks 𝓤 H A pair.ended stayed (WpFn 𝓤 H C Λ code.function) (pair.clauses 𝓤 H A mem run)
-  pair-walks C Λ fm known-new known-next known-moved known-both = walked 𝓤 H A pair.ended stayed (pair.clauses 𝓤 H A mem run) (WpFn 𝓤 H C Λ code.function) (λ κs. (slice-vals, (uint-vals w64, tt))) (λ κs. (shr-slice-tells (named 0) (κs .0) u8, (uint-tells w64, tt)))
-      (λ κs qs bounds a g are. via 𝓤 _ (fst∗ 𝓤 _ (emp 𝓤)) (walk 𝓤 H A W mem run (κs .0) (qs .0) (a .0) (a .1 .0) (are .1 .0 .1) C Λ fm known-new known-next known-moved known-both (are .0)))
+  pair-walks C Λ fm known-new known-inner known-moved known-both = walked 𝓤 H A pair.ended stayed (pair.clauses 𝓤 H A mem run) (WpFn 𝓤 H C Λ code.function) (λ κs. (slice-vals, (uint-vals w64, tt))) (λ κs. (shr-slice-tells (named 0) (κs .0) u8, (uint-tells w64, tt)))
+      (λ κs qs bounds a g are. via 𝓤 _ (fst∗ 𝓤 _ (emp 𝓤)) (walk 𝓤 H A W mem run (κs .0) (qs .0) (a .0) (a .1 .0) (are .1 .0 .1) C Λ fm known-new known-inner known-moved known-both (are .0)))
 
 pair-meets : {M : Type 1} (𝓤 : URA M) (H : Heap 𝓤) (A : Atoms 𝓤) (W : Given 𝓤 H A) (mem : Memory → SProp 𝓤) (run : Routine → Fun 𝓤) (𝓣 : Tables 𝓤 H)
-    → Triple 𝓤 (𝓣 .C #token·reader-on) (New 𝓤 H A mem run) → Triple 𝓤 (𝓣 .C #token·take-token) (Next 𝓤 H A mem run) → Triple 𝓤 (𝓣 .C #token·moved) (Moved 𝓤 H A mem run) → Triple 𝓤 (𝓣 .C #token·both) (Both 𝓤 H A mem run)
+    → Triple 𝓤 (𝓣 .C #token·reader-on) (New 𝓤 H A mem run) → Triple 𝓤 (𝓣 .C #token·take-inner) (Inner 𝓤 H A mem run) → Triple 𝓤 (𝓣 .C #token·moved) (Moved 𝓤 H A mem run) → Triple 𝓤 (𝓣 .C #token·both) (Both 𝓤 H A mem run)
     → Meets 𝓤 H A pair.signature (WpFn 𝓤 H (𝓣 .C) (𝓣 .Λ) code.function) (pair.spec 𝓤 H A mem run)
-pair-meets 𝓤 H A W mem run 𝓣 known-new known-next known-moved known-both = walk-meets 𝓤 H A pair.ended stayed W (goes-none-slice 𝓤 H A W 1 (0 ∷ []) tt (plain (λ _. u8)) yes, (goes-none 𝓤 H A W 1 (λ _. usize) yes (λ κs x f. refl), tt)) (pair.clauses 𝓤 H A mem run) (WpFn 𝓤 H (𝓣 .C) (𝓣 .Λ) code.function) (WpFn-mono 𝓤 H (W .laws) 𝓣 code.function)
-    (pair-walks 𝓤 H A W mem run (𝓣 .C) (𝓣 .Λ) (fmOf 𝓤 H (W .laws) 𝓣) known-new known-next known-moved known-both)
+pair-meets 𝓤 H A W mem run 𝓣 known-new known-inner known-moved known-both = walk-meets 𝓤 H A pair.ended stayed W (goes-none-slice 𝓤 H A W 1 (0 ∷ []) tt (plain (λ _. u8)) yes, (goes-none 𝓤 H A W 1 (λ _. usize) yes (λ κs x f. refl), tt)) (pair.clauses 𝓤 H A mem run) (WpFn 𝓤 H (𝓣 .C) (𝓣 .Λ) code.function) (WpFn-mono 𝓤 H (W .laws) 𝓣 code.function)
+    (pair-walks 𝓤 H A W mem run (𝓣 .C) (𝓣 .Λ) (fmOf 𝓤 H (W .laws) 𝓣) known-new known-inner known-moved known-both)
 
 pub read-two-spec : {M : Type 1} → stated.statement M
 unfolding code.routine tablesOf
@@ -220,6 +220,6 @@ read-two-spec 𝓤 H 𝓜 𝓖 𝓡 =
     (tables 𝓤 H 𝓜 𝓡 code.env .C) (tables 𝓤 H 𝓜 𝓡 code.env .Λ) #token·read-two code.function (code.unfolded 𝓤 H 𝓜 𝓡)
     (pair-meets 𝓤 H (𝓖 .A) (givenOf 𝓤 H 𝓜 𝓖) (𝓜 .mem) (𝓡 .run) (tablesOf 𝓤 H 𝓜 (tables 𝓤 H 𝓜 𝓡 code.env))
     (cited 𝓤 H (New 𝓤 H (𝓖 .A) (𝓜 .mem) (𝓡 .run)) 𝓜 𝓡 code.env #token·reader-on new-def.routine code.calls-token·reader-on (new-thm.met 𝓤 H 𝓜 𝓖 𝓡))
-    (cited 𝓤 H (Next 𝓤 H (𝓖 .A) (𝓜 .mem) (𝓡 .run)) 𝓜 𝓡 code.env #token·take-token next-def.routine code.calls-token·take-token (next-thm.met 𝓤 H 𝓜 𝓖 𝓡))
+    (cited 𝓤 H (Inner 𝓤 H (𝓖 .A) (𝓜 .mem) (𝓡 .run)) 𝓜 𝓡 code.env #token·take-inner inner-def.routine code.calls-token·take-inner (inner-thm.met 𝓤 H 𝓜 𝓖 𝓡))
     (cited 𝓤 H (Moved 𝓤 H (𝓖 .A) (𝓜 .mem) (𝓡 .run)) 𝓜 𝓡 code.env #token·moved moved-def.routine code.calls-token·moved (moved-thm.met 𝓤 H 𝓜 𝓖 𝓡))
     (cited 𝓤 H (Both 𝓤 H (𝓖 .A) (𝓜 .mem) (𝓡 .run)) 𝓜 𝓡 code.env #token·both both-def.routine code.calls-token·both (both-thm.met 𝓤 H 𝓜 𝓖 𝓡)))
