@@ -5,7 +5,8 @@ use mathlib.Core.List.{List, [], _∷_}
 use Prim.Native.Nat.{ℕ, suc, _+_, _-_, _*_, _/_, _%_, _^_, _≤_, _<_, min}
 use native.Mathlib.Omega.{arith}
 use native.Mathlib.Nat.{one-mul, zero-mul, mod-lt}
-use lib.ListN.{length, getD}
+use lib.ListN.{length}
+use Rattle.spelling.specs.Spelling.{entryIn}
 use lib.Dec.{T, lit<}
 use lib.Bits.{bitAnd, bitOr, and-high, or-disjoint, or-lt}
 use lib.Pow.{pow-lt, shl-exact, high-ones}
@@ -20,9 +21,10 @@ use Rattle.token.specs.declared.Token.{Token}
 use Rattle.operators.specs.declared.sets.Marked.{Marked}
 use Rattle.operators.specs.declared.braced.Modes.{Modes}
 use Rattle.operators.specs.declared.braced.Modes.the-variants.{Set, No}
-use Rattle.token.specs.Token.{TokenIs, onOpenBrace, onCloseBrace}
+use Rattle.token.specs.Token.{TokenIs, InnerIs, onOpenBrace, onCloseBrace}
 use Rattle.operators.specs.Modes.{markedOf, withMode, modeFrom, modeAt, moreFrom, moreAfter, modesAt, bracesAt, ModeRead, ModesInside, ModesRead}
 use Rattle.token.proofs.Tokens.{token-past}
+use Rattle.token.proofs.TokensLaws.{closing-same, closing-inner}
 
 -- ---- bits
 pub one-bit : (m : ℕ) → m < 16 → (1 * 2 ^ m) % 2 ^ 32 ≡ 2 ^ m
@@ -146,10 +148,10 @@ module _ (mask m b : ℕ) (e : b ≡ 2 ^ m) (fits : mask < 65536) where
 -- ---- one mode
 module _ (decl : List ℕ) (mask : ℕ) (t : Token) where
   -- a letter or a capital, as its entry has it
-  pub mode-forward : (k v : ℕ) (m : Marked) → t .tok ≡ Letter k → v ≡ getD decl k 0 → (m ≡ withMode mask v 0) × (m .mask < 65536) → ModeRead decl mask t (Set (t .next) (m .mask) (m .low))
+  pub mode-forward : (k v : ℕ) (m : Marked) → t .tok ≡ Letter k → v ≡ entryIn decl k → (m ≡ withMode mask v 0) × (m .mask < 65536) → ModeRead decl mask t (Set (t .next) (m .mask) (m .low))
   mode-forward k v m e a b = record { is = rw (e, ← a, ← b .0) refl; inside = (refl, b .1) }
 
-  pub mode-backward : (k v : ℕ) (m : Marked) → t .tok ≡ Capital k → v ≡ getD decl k 0 → (m ≡ withMode mask v 8) × (m .mask < 65536) → ModeRead decl mask t (Set (t .next) (m .mask) (m .low))
+  pub mode-backward : (k v : ℕ) (m : Marked) → t .tok ≡ Capital k → v ≡ entryIn decl k → (m ≡ withMode mask v 8) × (m .mask < 65536) → ModeRead decl mask t (Set (t .next) (m .mask) (m .low))
   mode-backward k v m e a b = record { is = rw (e, ← a, ← b .0) refl; inside = (refl, b .1) }
 
   pub mode-none : OneOf but-modes (tagOf the-type (t .tok)) → ModeRead decl mask t No
@@ -173,7 +175,7 @@ module _ (s decl : List ℕ) (at mask low : ℕ) where
       go (suc f) h = m f (omega arith) ∙ sym (modes-step f r₁ e)
 
   -- the first token, and the mode that it is
-  module _ (t : Token) (i : TokenIs s at t) (r₁ : Modes) (a : ModeRead decl mask t r₁) where
+  module _ (t : Token) (i : InnerIs s at t) (r₁ : Modes) (a : ModeRead decl mask t r₁) where
     mode-is : r₁ ≡ modeAt s decl at mask
     unfolding modeAt
     mode-is = rw (← i .is) (a .is)
@@ -182,7 +184,7 @@ module _ (s decl : List ℕ) (at mask low : ℕ) where
     modes-wrong d = modes-read r₁ No mode-is tt (λ f h. rw d refl)
 
     -- the second token
-    module _ (e m l : ℕ) (d : r₁ ≡ Set e m l) (u : Token) (j : TokenIs s (t .next) u) where
+    module _ (e m l : ℕ) (d : r₁ ≡ Set e m l) (u : Token) (j : InnerIs s (t .next) u) where
       pub mode-behind : (e ≡ t .next) × (m < 65536)
       mode-behind = rw d at (a .inside)
 
@@ -205,16 +207,17 @@ module _ (s decl : List ℕ) (at : ℕ) (t : Token) (i : TokenIs s at t) where
   unfolding bracesAt
   braces-none o = (rw (← i .is) (sym (no-brace _ No (t .tok) but-open-brace o tt)), tt)
 
+  -- what stands behind the brace, read as outside braces
   module _ (u : Token) (k : t .tok ≡ OpenBrace) (j : TokenIs s (t .next) u) where
     pub braces-empty : u .tok ≡ CloseBrace → (Set (u .next) 0 8 ≡ bracesAt s decl at) × ((at < u .next) × ((u .next ≤ length s) × (0 < 65536)))
     unfolding bracesAt
     braces-empty c =
         let a : at < t .next = token-past i k refl in
         let b : t .next < u .next = token-past j c refl in
-        (rw (← i .is, k, ← j .is, c) refl, (omega arith, (j .inside, omega arith)))
+        (rw (← i .is, k, closing-inner s (t .next) (rw (← j .is) c), ← j .is, c) refl, (omega arith, (j .inside, omega arith)))
 
     pub braces-modes : (r : Modes) → OneOf but-close-brace (tagOf the-type (u .tok)) → ModesRead s decl (t .next) 0 9 r → (r ≡ bracesAt s decl at) × ModesInside (length s) at r
     unfolding bracesAt
     braces-modes r o w =
         let a : at < t .next = token-past i k refl in
-        (rw (← i .is, k, ← j .is) (w .meets (length s + 1) (omega arith) ∙ sym (no-closing _ _ (u .tok) but-close-brace o tt)), modes-earlier (length s) at (t .next) r a (w .inside))
+        (rw (← i .is, k, closing-same _ _ s (t .next), ← j .is) (w .meets (length s + 1) (omega arith) ∙ sym (no-closing _ _ (u .tok) but-close-brace o tt)), modes-earlier (length s) at (t .next) r a (w .inside))

@@ -2,7 +2,8 @@
 use mathlib.Core.Path.{_≡_}
 use mathlib.Core.List.{List}
 use Prim.Native.Nat.{ℕ, suc, _+_, _-_, _/_, _%_, _^_, _≤_, _<_, min}
-use lib.ListN.{length, getD}
+use lib.ListN.{length}
+use Rattle.spelling.specs.Spelling.{entryIn}
 use lib.Dec.{ltb, leb, eqb}
 use Rattle.token.specs.declared.Tok.{Tok}
 use Rattle.token.specs.declared.Tok.the-variants.{End, Zero, One, Letter, Capital, Operator, Infix, Not, Open, Close, OpenBrace, CloseBrace, Comma, Other}
@@ -10,7 +11,7 @@ use Rattle.token.specs.declared.Token.{Token}
 use Rattle.operators.specs.declared.sets.Marked.{Marked}
 use Rattle.operators.specs.declared.braced.Modes.{Modes}
 use Rattle.operators.specs.declared.braced.Modes.the-variants.{Set, No}
-use Rattle.token.specs.Token.{pick, tokenAt, onOpenBrace, onCloseBrace}
+use Rattle.token.specs.Token.{pick, tokenAt, innerAt, onOpenBrace, onCloseBrace}
 
 -- a set with a mode more; a mode that it has already is the refusal 8
 unfoldable pub markedOf : ℕ → ℕ → Marked
@@ -25,11 +26,11 @@ withMode mask v back = pick (ltb v 9) (record { mask = mask; low = 7 }) (pick (l
 abbrev pub found : Marked → ℕ → Modes
 found m at = Set at (m .mask) (m .low)
 
--- one mode: a field's letter goes forward, its capital backward
+-- one mode: a field's spelling goes forward, and backward with its first letter in capital
 module _ (decl : List ℕ) where
   abbrev pub modeFrom : ℕ → Tok → ℕ → Modes
-  modeFrom mask (Letter k) at = found (withMode mask (getD decl k 0) 0) at
-  modeFrom mask (Capital k) at = found (withMode mask (getD decl k 0) 8) at
+  modeFrom mask (Letter k) at = found (withMode mask (entryIn decl k) 0) at
+  modeFrom mask (Capital k) at = found (withMode mask (entryIn decl k) 8) at
   modeFrom mask End at = No
   modeFrom mask Zero at = No
   modeFrom mask One at = No
@@ -45,7 +46,7 @@ module _ (decl : List ℕ) where
 
 module _ (s decl : List ℕ) where
   unfoldable pub modeAt : ℕ → ℕ → Modes
-  modeAt at mask = modeFrom decl mask (tokenAt s at .tok) (tokenAt s at .next)
+  modeAt at mask = modeFrom decl mask (innerAt s at .tok) (innerAt s at .next)
 
   -- what follows a mode: a comma and more modes, or the closing brace
   abbrev pub moreFrom : (ℕ → Modes) → ℕ → ℕ → Tok → ℕ → Modes
@@ -66,7 +67,7 @@ module _ (s decl : List ℕ) where
 
   abbrev pub moreAfter : (ℕ → ℕ → ℕ → Modes) → ℕ → Modes → Modes
   moreAfter more low No = No
-  moreAfter more low (Set e mask low′) = moreFrom (λ at. more at mask (min low low′)) mask (min low low′) (tokenAt s e .tok) (tokenAt s e .next)
+  moreAfter more low (Set e mask low′) = moreFrom (λ at. more at mask (min low low′)) mask (min low low′) (innerAt s e .tok) (innerAt s e .next)
 
   -- modes with commas between, up to the closing brace
   unfoldable pub modesAt : (fuel : ℕ) → ℕ → ℕ → ℕ → Modes
@@ -80,7 +81,7 @@ module _ (s decl : List ℕ) where
       (λ _.
       let inner = tokenAt s at .next in
       let modes = modesAt (length s + 1) inner 0 9 in
-      onCloseBrace (tokenAt s inner .tok) (Set (tokenAt s inner .next) 0 8) modes)
+      onCloseBrace (innerAt s inner .tok) (Set (innerAt s inner .next) 0 8) modes)
       No
 
 -- what a reader of one mode answers of its token: it goes on behind the token, with a set of at most 16 modes

@@ -39,8 +39,8 @@ binary Au A p q = au A p q
 binary Er A p q = er A p q
 binary Ar A p q = ar A p q
 
--- the operator of a quantifier, E (4) or A (0), and U (20) or R (17), each a capital's place in the alphabet
+-- the operator of a quantifier, E (101) or A (97), and U (117) or R (114), each a capital by its lower-case letter
 unfoldable pub choiceOf : ℕ → ℕ → Choice
 choiceOf q c =
-    pick (eqb q 4) (pick (eqb c 20) (Is Eu) (pick (eqb c 17) (Is Er) No))
-    (pick (eqb q 0) (pick (eqb c 20) (Is Au) (pick (eqb c 17) (Is Ar) No)) No)
+    pick (eqb q 101) (pick (eqb c 117) (Is Eu) (pick (eqb c 114) (Is Er) No))
+    (pick (eqb q 97) (pick (eqb c 117) (Is Au) (pick (eqb c 114) (Is Ar) No)) No)

@@ -1,12 +1,14 @@
 // Modes in braces, read from a line. Assumes nothing.
 ghost use mathlib.Core.Path.{_≡_};
 ghost use Prim.Native.Nat.{_≤_, _<_};
-ghost use lib.ListN.{length, getD};
+ghost use lib.ListN.{length};
 ghost use Rattle.operators.specs.Modes.{ModeRead, ModesInside, ModesRead, bracesAt};
 use crate::sets::lower;
 use crate::sets::with_mode;
+use spelling::entry;
 use token::Tok;
 use token::Token;
+use token::next_token;
 use token::next_two;
 
 // What reading braces finds: the position after them, the set of modes and the lowest refusal; or no braces.
@@ -15,16 +17,8 @@ pub enum Modes {
     No,
 }
 
-// A letter's entry in the declarations, 0 where there is none.
-pub fn entry(decl: &[u8], k: u8) -> u8
-    ensures { λ r. ⌜ r ≡ getD (now (decl .entry)) k 0 ⌝ }
-{
-    let i = k as usize;
-    if i < decl.len() { decl[i] } else { 0 }
-}
-
 // The mode of a token, added to a set.
-pub fn one_mode(decl: &[u8], t: Token, mask: u32) -> Modes
+pub fn one_mode(decl: &[u64], t: Token, mask: u32) -> Modes
     requires { ⌜ mask < 65536 ⌝ }
     ensures { λ r. ⌜ ModeRead (now (decl .entry)) mask t r ⌝ }
 {
@@ -52,7 +46,7 @@ pub fn one_mode(decl: &[u8], t: Token, mask: u32) -> Modes
 }
 
 // Modes with commas between, up to the closing brace, added to a set.
-pub fn modes_from(s: &[u8], decl: &[u8], at: usize, mask: u32, low: u8) -> Modes
+pub fn modes_from(s: &[u8], decl: &[u64], at: usize, mask: u32, low: u8) -> Modes
     requires { ⌜ (at ≤ length (now s)) × (mask < 65536) ⌝ }
     ensures { λ r. ⌜ ModesRead (now (s .entry)) (now (decl .entry)) at mask low r ⌝ }
 {
@@ -80,18 +74,17 @@ pub fn modes_from(s: &[u8], decl: &[u8], at: usize, mask: u32, low: u8) -> Modes
 }
 
 // A set of modes in braces.
-pub fn braces(s: &[u8], decl: &[u8], at: usize) -> Modes
+pub fn braces(s: &[u8], decl: &[u64], at: usize) -> Modes
     requires { ⌜ at ≤ length (now s) ⌝ }
     ensures { λ r. ⌜ (r ≡ bracesAt (now (s .entry)) (now (decl .entry)) at) × ModesInside (length (now (s .entry))) at r ⌝ }
 {
-    let two = next_two(s, at);
-    let t = two.first;
+    let t = next_token(s, at);
     let k = t.tok;
     let after = t.next;
     let Tok::OpenBrace = k else {
         return Modes::No;
     };
-    let u = two.second;
+    let u = next_token(s, after);
     let c = u.tok;
     let end = u.next;
     if let Tok::CloseBrace = c {

@@ -41,19 +41,19 @@ pub fn binary_kind(b: Binary) -> u8
     }
 }
 
-// The operator of a quantifier and U or R, each a capital's place in the alphabet.
-pub fn choose(q: u8, c: u8) -> Choice
+// The operator of a quantifier and U or R, each a capital by its lower-case letter.
+pub fn choose(q: u64, c: u64) -> Choice
     ensures { λ r. ⌜ r ≡ choiceOf q c ⌝ }
 {
     match q {
-        4 => match c {
-            20 => Choice::Is(Binary::Eu),
-            17 => Choice::Is(Binary::Er),
+        101 => match c {
+            117 => Choice::Is(Binary::Eu),
+            114 => Choice::Is(Binary::Er),
             _ => Choice::No,
         },
-        0 => match c {
-            20 => Choice::Is(Binary::Au),
-            17 => Choice::Is(Binary::Ar),
+        97 => match c {
+            117 => Choice::Is(Binary::Au),
+            114 => Choice::Is(Binary::Ar),
             _ => Choice::No,
         },
         _ => Choice::No,

@@ -5,7 +5,6 @@ mod sets;
 
 pub use braced::Modes;
 pub use braced::braces;
-pub use braced::entry;
 pub use kinds::Binary;
 pub use kinds::Choice;
 pub use kinds::binary_kind;

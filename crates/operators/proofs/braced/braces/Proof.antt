@@ -1,20 +1,20 @@
--- `braced::braces` meets its contract, by the laws of `ModeLaws`.
--- Assumes nothing.
+-- `braced::braces` meets its contract, by the laws of `ModeLaws`. Assumes nothing.
 use Rattle.operators.proofs.ModeLaws.{braces-none, braces-empty, braces-modes}
 use borrow.Author.Needs.{needs}
 use Rattle.operators.proofs.braced.braces.Statement.{statement}
 use Rattle.operators.proofs.braced.braces.Tie as tie
 
-next-two-requires : tie.Need-next-two-requires
-next-two-requires c κs = search needs
+next-token-requires : tie.Need-next-token-requires
+next-token-requires c κs = search needs
 
 enum-told : tie.Need-enum-told
 enum-told c = search needs
 
 returns : tie.Need-returns
-returns c =
-    let two = c .before .before .next-two .ensures in
-    braces-none _ _ _ _ (two .first-is) (c .match .keys2)
+returns c = braces-none _ _ _ _ (c .before .next-token .ensures) (c .match .keys2)
+
+next-token-requires-2 : tie.Need-next-token-requires-2
+next-token-requires-2 c κs = search needs
 
 enum-told-2 : tie.Need-enum-told-2
 enum-told-2 c = search needs
@@ -23,25 +23,19 @@ modes-from-requires : tie.Need-modes-from-requires
 modes-from-requires c κs = search needs
 
 returns-2 : tie.Need-returns-2
-returns-2 c =
-    let b3 = c .before .before .before in
-    let two = b3 .before .before .before .next-two .ensures in
-    braces-empty _ _ _ _ (two .first-is) _ (b3 .enum-told .given .1) (two .second-is) (c .enum-told2 .given .1)
+returns-2 c = braces-empty _ _ _ _ (c .before .before .before .before .before .next-token .ensures) _ (c .before .before .before .enum-told .given .1) (c .before .before .next-token2 .ensures) (c .enum-told2 .given .1)
 
 returns-3 : tie.Need-returns-3
-returns-3 c =
-    let b1 = c .before in
-    let b3 = b1 .before .before in
-    let two = b3 .before .before .before .next-two .ensures in
-    braces-modes _ _ _ _ (two .first-is) _ (b3 .enum-told .given .1) (two .second-is) _ (b1 .match2 .keys2) (c .modes-from .ensures)
+returns-3 c = braces-modes _ _ _ _ (c .before .before .before .before .before .next-token .ensures) _ (c .before .before .before .enum-told .given .1) (c .before .before .next-token2 .ensures) _ (c .before .match2 .keys2) (c .modes-from .ensures)
 
 pub braces-spec : {M : Type 1} → statement M
 braces-spec =
     tie.close
     (tie.spec
-    next-two-requires
+    next-token-requires
     enum-told
     returns
+    next-token-requires-2
     enum-told-2
     modes-from-requires
     returns-2

@@ -30,7 +30,7 @@ returns-5 c = sym (ap₂ choiceOf (c .before .match .keys2) (c .match3 .keys2))
 
 returns-6 : tie.Need-returns-6
 unfolding choiceOf
-returns-6 c = simp (ap (λ (n : ℕ). eqb n 4) (c .before .match .keys2), eq-eqb _ _ (c .before .match .keys2), ne-eqb _ _ (c .match3 .rest .0 .1), ne-eqb _ _ (c .match3 .rest .1))
+returns-6 c = simp (ap (λ (n : ℕ). eqb n 101) (c .before .match .keys2), eq-eqb _ _ (c .before .match .keys2), ne-eqb _ _ (c .match3 .rest .0 .1), ne-eqb _ _ (c .match3 .rest .1))
 
 returns-7 : tie.Need-returns-7
 unfolding choiceOf
