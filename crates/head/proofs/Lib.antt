@@ -2,5 +2,5 @@ pub mod WordLaws
 pub mod KindLaws
 pub mod DeclareLaws
 pub mod HeadLaws
-pub mod Letters
+pub mod Spellings
 pub mod Entries

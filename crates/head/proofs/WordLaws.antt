@@ -1,18 +1,19 @@
 -- Laws of the words of lines 1 and 2. Assumes nothing.
-use mathlib.Core.Path.{_≡_, refl, sym, _∙_}
-use mathlib.Core.Bool.{Bool, true, false, cond, not, _&&_, false≢true}
+use mathlib.Core.Path.{_≡_, refl, sym, ap, _∙_}
+use mathlib.Core.Bool.{Bool, true, false, cond, _&&_, false≢true}
 use mathlib.Core.List.{List, [], _∷_, _++_}
 use Prim.Native.Nat.{ℕ, suc, _+_, _-_, _≤_, _<_}
 use native.Mathlib.Numerals.{add-one}
 use native.Mathlib.Omega.{arith}
 use lib.Dec.{ltb}
-use lib.ListN.{length, getD, take, drop, set, drop-of-length-le, length-drop}
+use lib.ListN.{length, getD, take, drop, set, drop-of-length-le, length-drop, length-set}
 use lib.Seq.{drop-cons, take-suc-set, length-take-le, take-all}
 use borrow.Author.Tests.{eq-eqb, ne-eqb, lt-ltb, le-ltb, ltb-true, ltb-false}
-use Rattle.layout.specs.Text.{part, endOf, split, has}
-use Rattle.head.specs.Head.{space, lower, nameRight, namesFrom, nameCount, kindOf, kindRight, kindsFrom}
+use Rattle.spelling.specs.Spelling.{spelled}
+use Rattle.spelling.proofs.SpellingLaws.{Spelled, spelled-is}
+use Rattle.layout.specs.Text.{part, endOf, split}
+use Rattle.head.specs.Head.{space, wordRight, nameCount, kindOf, kindRight, kindsFrom, kindsOf}
 use Rattle.layout.proofs.TextLaws.{cut-last, cut-next}
-use Rattle.layout.proofs.ScanLaws.{part-length}
 
 pub and-fst : (a b : Bool) → (a && b) ≡ true → a ≡ true
 and-fst true b e = refl
@@ -21,29 +22,6 @@ and-fst false b e = e
 pub and-snd : (a b : Bool) → (a && b) ≡ true → b ≡ true
 and-snd true b e = e
 and-snd false b e = absurd (false≢true e)
-
--- ---- a word of line 1
-pub name-long : (seen w : List ℕ) → (length w ≡ 1 → ⊥) → nameRight seen w ≡ false
-unfolding nameRight
-name-long seen [] ne = refl
-name-long seen (c ∷ []) ne = absurd (ne refl)
-name-long seen (c ∷ d ∷ r) ne = refl
-
-pub name-is : (seen w : List ℕ) → length w ≡ 1 → nameRight seen w ≡ (lower (getD w 0 0) && ltb (length seen) 8 && not (has (getD w 0 0) seen))
-unfolding nameRight
-name-is seen [] e = absurd (omega arith)
-name-is seen (c ∷ []) e = refl
-name-is seen (c ∷ d ∷ r) e = absurd (omega arith)
-
-pub name-one : (seen w : List ℕ) → nameRight seen w ≡ true → length w ≡ 1
-unfolding nameRight
-name-one seen [] e = absurd (false≢true e)
-name-one seen (c ∷ []) e = refl
-name-one seen (c ∷ d ∷ r) e = absurd (false≢true e)
-
-pub name-few : (seen w : List ℕ) → nameRight seen w ≡ true → length seen < 8
-name-few seen w e =
-    ltb-true _ _ (and-snd (lower (getD w 0 0)) _ (and-fst _ _ (sym (name-is seen w (name-one seen w e)) ∙ e)))
 
 -- the first word from a position on, and those after it
 unfoldable pub rest : ℕ → List ℕ → ℕ → List (List ℕ)
@@ -68,36 +46,45 @@ pub rest-more : (b : ℕ) (s : List ℕ) (e : ℕ) → e < length s → rest b s
 unfolding rest
 rest-more b s e h = rw (lt-ltb _ _ h)
 
--- ---- the letters
-single : (s : List ℕ) (at e : ℕ) → e ≤ length s → length (part s at e) ≡ 1 → part s at e ≡ getD s at 0 ∷ []
-single s at e h l =
-    let m : e - at ≡ 1 = sym (part-length s at e h) ∙ l in
-    rw (m, drop-cons s at 0 (omega arith))
+-- ---- words read one by one into an array of 8
+-- each right word's number after those seen; none where a word is wrong
+unfoldable pub collect : (List ℕ → List ℕ → Bool) → (List ℕ → ℕ) → List ℕ → List (List ℕ) → List ℕ
+collect right value seen [] = seen
+collect right value seen (w ∷ ws) = cond (right seen w) (collect right value (seen ++ (value w ∷ [])) ws) []
 
-module _ (line l : List ℕ) (n at e : ℕ) (is : e ≡ endOf space line at) (inside : at ≤ length line) (within : e ≤ length line) (few : n ≤ 8) (room : length l ≡ 8) where
-  pub names-wrong : nameRight (take n l) (part line at e) ≡ false → namesFrom (take n l) (split space (drop at line)) ≡ []
-  unfolding namesFrom
-  names-wrong r = rw (first space line at e is inside within, r)
+-- the first n of an array, and the numbers of the words from a position on, are those of the line
+pub record Collecting (right : List ℕ → List ℕ → Bool) (value : List ℕ → ℕ) (line all l : List ℕ) (n at : ℕ) : Type 0 where
+  pub inside : at ≤ length line
+  pub few : n ≤ 8
+  pub room : length l ≡ 8
+  pub are : collect right value (take n l) (split space (drop at line)) ≡ all
 
-  module _ (r : nameRight (take n l) (part line at e) ≡ true) where
-    pub names-room : n < 8
-    names-room = let k : length (take n l) < 8 = name-few (take n l) (part line at e) r in omega (arith, length-take-le n l (omega arith))
+module _ {right : List ℕ → List ℕ → Bool} {value : List ℕ → ℕ} {line all l : List ℕ} {n at e : ℕ} (p : Collecting right value line all l n at) (is : e ≡ endOf space line at) (within : e ≤ length line) where
+  pub collect-wrong : right (take n l) (part line at e) ≡ false → [] ≡ all
+  unfolding collect
+  collect-wrong r = sym (rw (first space line at e is (p .inside) within, r)) ∙ p .are
 
-    pub names-inside : at + 1 ≡ e
-    names-inside = let k : length (part line at e) ≡ 1 = name-one (take n l) (part line at e) r in omega (arith, part-length line at e within)
+  module _ (right-few : (seen w : List ℕ) → right seen w ≡ true → length seen < 8) (r : right (take n l) (part line at e) ≡ true) where
+    pub collect-room : n < 8
+    collect-room = let f : length (take n l) < 8 = right-few (take n l) (part line at e) r in omega (arith, length-take-le n l (omega arith))
 
-    step : take n l ++ part line at e ≡ take (n + 1) (set l n (getD line at 0))
-    step =
-        let q : n < length l = omega (arith, names-room) in
-        rw (single line at e within (name-one (take n l) (part line at e) r), add-one n, take-suc-set l n (getD line at 0) q)
+    module _ {x : ℕ} (v : x ≡ value (part line at e)) where
+      add : take n l ++ (value (part line at e) ∷ []) ≡ take (n + 1) (set l n x)
+      add = let q : n < length l = omega (arith, collect-room) in rw (← v, add-one n, take-suc-set l n x q)
 
-    pub names-last : length line ≤ e → namesFrom (take n l) (split space (drop at line)) ≡ take (n + 1) (set l n (getD line at 0))
-    unfolding namesFrom
-    names-last h = rw (first space line at e is inside within, r, rest-none space line e h) step
+      pub collect-last : length line ≤ e → take (n + 1) (set l n x) ≡ all
+      unfolding collect
+      collect-last h = sym (rw (first space line at e is (p .inside) within, r, rest-none space line e h) add) ∙ p .are
 
-    pub names-next : e < length line → namesFrom (take (n + 1) (set l n (getD line at 0))) (split space (drop (e + 1) line)) ≡ namesFrom (take n l) (split space (drop at line))
-    unfolding namesFrom
-    names-next h = rw (first space line at e is inside within, r, rest-more space line e h, step)
+      pub collect-next : e < length line → Collecting right value line all (set l n x) (n + 1) (e + 1)
+      unfolding collect
+      collect-next h =
+          record {
+            inside = omega arith;
+            few = omega (arith, collect-room);
+            room = length-set l n x ∙ p .room;
+            are = rw (← add) (sym (rw (first space line at e is (p .inside) within, r, rest-more space line e h)) ∙ p .are);
+          }
 
 -- ---- the kinds
 pub count-name : (ks : List ℕ) (i : ℕ) → i < length ks → getD ks i 0 ≡ 2 → nameCount (drop i ks) ≡ suc (nameCount (drop (i + 1) ks))
@@ -116,22 +103,27 @@ pub kind-few : (seen : List ℕ) (k : ℕ) → kindRight seen k ≡ true → len
 unfolding kindRight
 kind-few seen k e = ltb-true _ _ (and-snd (ltb 0 k) _ (and-fst _ _ e))
 
-module _ (line l : List ℕ) (n at e k : ℕ) (is : e ≡ endOf space line at) (kind : k ≡ kindOf (part line at e)) (inside : at ≤ length line) (within : e ≤ length line) (few : n ≤ 8) (room : length l ≡ 8) where
-  pub kinds-wrong : kindRight (take n l) k ≡ false → kindsFrom (take n l) (split space (drop at line)) ≡ []
-  unfolding kindsFrom
-  kinds-wrong r = rw (first space line at e is inside within, ← kind, r)
+-- a word that may follow the kinds seen
+abbrev pub kindFits : List ℕ → List ℕ → Bool
+kindFits seen w = kindRight seen (kindOf w)
 
-  module _ (r : kindRight (take n l) k ≡ true) where
-    pub kinds-room : n < 8
-    kinds-room = let f : length (take n l) < 8 = kind-few (take n l) k r in omega (arith, length-take-le n l (omega arith))
+pub kind-fits : (seen w : List ℕ) → kindFits seen w ≡ true → length seen < 8
+kind-fits seen w e = kind-few seen (kindOf w) e
 
-    add : take n l ++ (k ∷ []) ≡ take (n + 1) (set l n k)
-    add = let q : n < length l = omega (arith, kinds-room) in rw (add-one n, take-suc-set l n k q)
+kinds-from : (ws : List (List ℕ)) (seen : List ℕ) → collect kindFits kindOf seen ws ≡ kindsFrom seen ws
+unfolding collect kindsFrom
+kinds-from [] seen = refl
+kinds-from (w ∷ ws) seen = ap (λ l. cond (kindFits seen w) l []) (kinds-from ws (seen ++ (kindOf w ∷ [])))
 
-    pub kinds-last : length line ≤ e → kindsFrom (take n l) (split space (drop at line)) ≡ take (n + 1) (set l n k)
-    unfolding kindsFrom
-    kinds-last h = rw (first space line at e is inside within, ← kind, r, rest-none space line e h) add
+pub kinds-collected : (line : List ℕ) → collect kindFits kindOf [] (split space line) ≡ kindsOf line
+unfolding kindsOf
+kinds-collected line = kinds-from (split space line) []
 
-    pub kinds-next : e < length line → kindsFrom (take (n + 1) (set l n k)) (split space (drop (e + 1) line)) ≡ kindsFrom (take n l) (split space (drop at line))
-    unfolding kindsFrom
-    kinds-next h = rw (first space line at e is inside within, ← kind, r, rest-more space line e h, add)
+-- ---- the words of line 1
+pub word-few : (seen w : List ℕ) → wordRight seen w ≡ true → length seen < 8
+unfolding wordRight
+word-few seen w e = ltb-true _ _ (and-snd (spelled w) _ (and-fst _ _ e))
+
+pub word-spelled : (seen w : List ℕ) → wordRight seen w ≡ true → Spelled w
+unfolding wordRight
+word-spelled seen w e = spelled-is w (and-fst _ _ (and-fst _ _ e))

@@ -1,42 +1,47 @@
--- Lines 1 and 2 of a sheet: the symbols' letters and kinds, the refusals 4 and 5, and the declarations. Assumes nothing: these are definitions.
+-- Lines 1 and 2 of a sheet: the symbols' spellings and kinds, the refusals 4 and 5, and the declarations. Assumes nothing: these are definitions.
 use mathlib.Core.Path.{_≡_}
 use mathlib.Core.Bool.{Bool, false, cond, not, _&&_, _||_}
-use mathlib.Core.List.{List, [], _∷_, _++_}
-use Prim.Native.Nat.{ℕ, suc, _+_, _-_, _≤_}
+use mathlib.Core.List.{List, [], _∷_, _++_, map}
+use Prim.Native.Nat.{ℕ, suc, _+_, _≤_}
 use lib.ListN.{length, take, drop, set, replicate}
-use lib.Dec.{ltb, leb, eqb}
+use lib.Dec.{ltb, eqb}
 use Rattle.head.specs.declared.names.Names.{Names}
 use Rattle.head.specs.declared.kinds.Kinds.{Kinds}
 use Rattle.head.specs.declared.Head.{Head}
+use Rattle.spelling.specs.Spelling.{spelled, word}
 use Rattle.layout.specs.Text.{split, same, has}
 use Rattle.layout.specs.Layout.{lines, linesFrom, lineOf, lengthWrong, byteWrong, layoutRight}
 
 abbrev pub space : ℕ
 space = 32
 
--- ---- 4, names: line 1 has 1 to 8 different lower-case letters, single spaces between
-abbrev pub lower : ℕ → Bool
-lower c = leb 97 c && leb c 122
+-- ---- 4, names: line 1 has 1 to 8 different spellings, single spaces between
+-- a text is among some
+unfoldable pub hasText : List ℕ → List (List ℕ) → Bool
+hasText w [] = false
+hasText w (v ∷ vs) = same v w || hasText w vs
 
--- a word that is one lower-case letter, none of the earlier ones, which are below 8
-unfoldable pub nameRight : List ℕ → List ℕ → Bool
-nameRight seen [] = false
-nameRight seen (c ∷ []) = lower c && ltb (length seen) 8 && not (has c seen)
-nameRight seen (c ∷ d ∷ r) = false
+-- a word that is a spelling, none of the earlier ones, which are below 8
+unfoldable pub nameRight : List (List ℕ) → List ℕ → Bool
+nameRight seen w = spelled w && ltb (length seen) 8 && not (hasText w seen)
 
--- the letters of line 1's words, after those seen; none where a word is wrong
-unfoldable pub namesFrom : List ℕ → List (List ℕ) → List ℕ
+-- the same where the earlier ones are packed
+unfoldable pub wordRight : List ℕ → List ℕ → Bool
+wordRight seen w = spelled w && ltb (length seen) 8 && not (has (word w) seen)
+
+-- the words of line 1, after those seen; none where a word is wrong
+unfoldable pub namesFrom : List (List ℕ) → List (List ℕ) → List (List ℕ)
 namesFrom seen [] = seen
-namesFrom seen (w ∷ ws) = cond (nameRight seen w) (namesFrom (seen ++ w) ws) []
+namesFrom seen (w ∷ ws) = cond (nameRight seen w) (namesFrom (seen ++ (w ∷ [])) ws) []
 
-unfoldable pub namesOf : List ℕ → List ℕ
+unfoldable pub namesOf : List ℕ → List (List ℕ)
 namesOf line = namesFrom [] (split space line)
 
--- what a reader of line 1 answers: the letters, in an array of 8
+-- what a reader of line 1 answers: the spellings as words, in an array of 8
 pub record NamesRead (line : List ℕ) (r : Names) : Type 0 where
   pub few : r .count ≤ 8
-  pub room : length (r .letters) ≡ 8
-  pub are : take (r .count) (r .letters) ≡ namesOf line
+  pub room : length (r .words) ≡ 8
+  pub are : take (r .count) (r .words) ≡ map word (namesOf line)
 
 -- ---- 5, kinds: line 2 has as many words, each `mark`, `name` or `field`, at most two of them `name`
 -- a word's kind: 1 mark, 2 name, 3 field, 0 none
@@ -76,9 +81,9 @@ pub record KindsRead (line : List ℕ) (r : Kinds) : Type 0 where
   pub are : take (r .count) (r .kinds) ≡ kindsOf line
 
 -- ---- the symbols
--- the symbols' letters and kinds, in line 1 order
-abbrev pub letters : List ℕ → List ℕ
-letters s = namesOf (lineOf s 0)
+-- the symbols' spellings and kinds, in line 1 order
+abbrev pub spellings : List ℕ → List (List ℕ)
+spellings s = namesOf (lineOf s 0)
 
 abbrev pub kinds : List ℕ → List ℕ
 kinds s = kindsOf (lineOf s 1)
@@ -89,29 +94,30 @@ layoutRefusal s =
     cond (lengthWrong s) 1
     (cond (byteWrong s) 2
     (cond (not (layoutRight s)) 3
-    (cond (eqb (length (letters s)) 0) 4
-    (cond (not (eqb (length (kinds s)) (length (letters s)))) 5 0))))
+    (cond (eqb (length (spellings s)) 0) 4
+    (cond (not (eqb (length (kinds s)) (length (spellings s)))) 5 0))))
 
--- ---- declarations: an entry for each letter of the alphabet, 0 undeclared, 1 + i the mark or name i, 9 + i the field i
-abbrev pub entryOf : ℕ → ℕ → ℕ
-entryOf i k = cond (eqb k 3) (9 + i) (1 + i)
+-- ---- declarations: 16 numbers. Number i is the word of symbol i where that is a mark or a name, number 8 + i where it is a field, and 0 where there is none;
+-- so a symbol's entry (spelling: entryIn) is 0 undeclared, 1 + i the mark or name i, 9 + i the field i
+abbrev pub placeOf : ℕ → ℕ → ℕ
+placeOf i k = cond (eqb k 3) (8 + i) i
 
--- the entries of symbols from number i on, set in a table
+-- the words of symbols from number i on, set in a table
 unfoldable pub declare : ℕ → List ℕ → List ℕ → List ℕ → List ℕ
 declare i [] ks tab = tab
-declare i (c ∷ cs) [] tab = tab
-declare i (c ∷ cs) (k ∷ ks) tab = declare (suc i) cs ks (cond (lower c) (set tab (c - 97) (entryOf i k)) tab)
+declare i (x ∷ xs) [] tab = tab
+declare i (x ∷ xs) (k ∷ ks) tab = declare (suc i) xs ks (set tab (placeOf i k) x)
 
 unfoldable pub declared : List ℕ → List ℕ → List ℕ
-declared cs ks = declare 0 cs ks (replicate 26 0)
+declared xs ks = declare 0 xs ks (replicate 16 0)
 
 -- what a reader of lines 1 and 2 answers
 pub record Accepted (s : List ℕ) (r : Head) : Type 0 where
-  pub count : r .count ≡ length (letters s)
+  pub count : r .count ≡ length (spellings s)
   pub few : r .count ≤ 8
-  pub letters-are : take (r .count) (r .letters) ≡ letters s
+  pub words-are : take (r .count) (r .words) ≡ map word (spellings s)
   pub kinds-are : take (r .count) (r .kinds) ≡ kinds s
-  pub decl-is : r .decl ≡ declared (letters s) (kinds s)
+  pub decl-is : r .decl ≡ declared (map word (spellings s)) (kinds s)
   pub inside : r .from ≤ length s
   pub third : linesFrom s (r .from) ≡ drop 2 (lines s)
   pub short : length s ≤ 1024

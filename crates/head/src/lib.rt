@@ -1,4 +1,4 @@
-// The head of a sheet, its lines 1 and 2: the symbols' letters and kinds, and the refusals 1 to 5. Assumes nothing.
+// The head of a sheet, its lines 1 and 2: the symbols' spellings and kinds, and the refusals 1 to 5. Assumes nothing.
 mod declarations;
 mod kinds;
 mod names;
@@ -13,14 +13,14 @@ use layout::length_wrong;
 use layout::third_line;
 use names::line_one;
 
-// What lines 1 and 2 say, with the lowest of the refusals 1 to 5, 0 for none: the symbols' number, letters, kinds and declarations, and the place of
-// the third line.
+// What lines 1 and 2 say, with the lowest of the refusals 1 to 5, 0 for none: the symbols' number, spellings as words, kinds and declarations, and
+// the place of the third line.
 pub struct Head {
     pub refusal: u8,
     pub count: usize,
-    pub letters: [u8; 8],
+    pub words: [u64; 8],
     pub kinds: [u8; 8],
-    pub decl: [u8; 26],
+    pub decl: [u64; 16],
     pub from: usize,
 }
 
@@ -30,9 +30,9 @@ pub fn refused(k: u8) -> Head
     Head {
         refusal: k,
         count: 0,
-        letters: [0u8; 8],
+        words: [0u64; 8],
         kinds: [0u8; 8],
-        decl: [0u8; 26],
+        decl: [0u64; 16],
         from: 0,
     }
 }
@@ -59,14 +59,14 @@ pub fn read_head(s: &[u8]) -> Head
     if m != n {
         return refused(5);
     }
-    let cs = names.letters;
+    let ws = names.words;
     let ks = kinds.kinds;
-    let decl = declare(&cs[..n], &ks[..n]);
+    let decl = declare(&ws[..n], &ks[..n]);
     let from = third_line(s);
     Head {
         refusal: 0,
         count: n,
-        letters: cs,
+        words: ws,
         kinds: ks,
         decl,
         from,

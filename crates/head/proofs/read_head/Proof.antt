@@ -88,13 +88,13 @@ returns-5 c =
     let b10 = b9 .before in
     head-5 _ (sym (b10 .length-wrong .ensures) ∙ b9 .if1 .left) (sym (b8 .byte-wrong .ensures) ∙ b7 .if2 .left) (sym (b6 .layout-right .ensures) ∙ not-false _ (b5 .if3 .left)) _ (b4 .line-one .ensures) (b3 .if4 .left) _ (b2 .line-two .ensures) _ (b1 .if5 .taken) (c .refused5 .ensures)
 
-array-share-prefix-cs : tie.Need-array-share-prefix-cs
-array-share-prefix-cs c = search needs
+array-share-prefix-ws : tie.Need-array-share-prefix-ws
+array-share-prefix-ws c = search needs
 
 slice-aggregate-declare : tie.Need-slice-aggregate-declare
 slice-aggregate-declare c =
     let b6 = c .before .before .before .before .before .before in
-    sym (length-take-le (b6 .line-one .result .count) (b6 .line-one .result .letters) (omega (arith, b6 .line-one .ensures .few, b6 .line-one .ensures .room)))
+    sym (length-take-le (b6 .line-one .result .count) (b6 .line-one .result .words) (omega (arith, b6 .line-one .ensures .few, b6 .line-one .ensures .room)))
 
 array-share-prefix-ks : tie.Need-array-share-prefix-ks
 array-share-prefix-ks c = search needs
@@ -108,7 +108,7 @@ slice-aggregate-declare-2 c =
 declare-requires : tie.Need-declare-requires
 declare-requires c κs =
     let b7 = c .before .before .before .before .before .before .before in
-    omega (arith, b7 .line-one .ensures .few, length-take-le (b7 .line-one .result .count) (b7 .line-one .result .letters) (omega (arith, b7 .line-one .ensures .few, b7 .line-one .ensures .room)))
+    omega (arith, b7 .line-one .ensures .few, length-take-le (b7 .line-one .result .count) (b7 .line-one .result .words) (omega (arith, b7 .line-one .ensures .few, b7 .line-one .ensures .room)))
 
 third-line-requires : tie.Need-third-line-requires
 third-line-requires c κs = search needs
@@ -147,7 +147,7 @@ read-head-spec =
     line-two-requires
     refused-requires-5
     returns-5
-    array-share-prefix-cs
+    array-share-prefix-ws
     slice-aggregate-declare
     array-share-prefix-ks
     slice-aggregate-declare-2

@@ -1,25 +1,29 @@
--- `kinds::read_kinds` meets its contract. Assumes nothing.
+-- `kinds::read_kinds` meets its contract. The invariant: the kinds collected from the rest, after those stored, are those of the line. Assumes nothing.
 use native.Mathlib.Omega.{arith}
-use Rattle.head.proofs.WordLaws.{kinds-wrong, kinds-room, kinds-last, kinds-next}
-use Rattle.head.specs.Head.{space, kindsFrom, kindsOf}
-use Rattle.layout.specs.Text.{split}
+use Rattle.head.proofs.WordLaws.{Collecting, collect-wrong, collect-room, collect-last, collect-next, kindFits, kind-fits, kinds-collected}
+use Rattle.head.specs.Head.{kindOf, kindRight, kindsOf}
 use borrow.Author.Tests.{not-true, not-false}
 use lib.Seq.{length-take-le}
-use lib.ListN.{length, take, drop, length-set}
-use Prim.Native.Nat.{_≤_, _-_, _<_}
+use lib.ListN.{length, length-set}
+use Prim.Native.Nat.{ℕ, _-_, _<_}
+use mathlib.Core.Bool.{Bool}
+use mathlib.Core.List.{List}
 use mathlib.Core.Path.{_≡_, refl, sym, _∙_}
 use Rattle.head.proofs.kinds.read_kinds.Statement.{statement}
 use Rattle.head.proofs.kinds.read_kinds.Tie as tie
 
+-- the code tests a word's kind, the line's words are tested themselves
+right-is : (seen w : List ℕ) {k : ℕ} {t : Bool} → k ≡ kindOf w → t ≡ kindRight seen k → t ≡ kindFits seen w
+right-is seen w e f = rw (f, e) refl
+
 abbrev Inv-loop : tie.InvT-loop
-Inv-loop line kinds₀ n₀ at₀ kinds n at = (at ≤ length line) × ((n ≤ 8) × ((length kinds ≡ 8) × (kindsFrom (take n kinds) (split space (drop at line)) ≡ kindsOf line)))
+Inv-loop line kinds₀ n₀ at₀ kinds n at = Collecting kindFits kindOf line (kindsOf line) kinds n at
 
 abbrev μ-loop : tie.MeasureT-loop
 μ-loop line kinds₀ n₀ at₀ kinds n at = length line - at
 
 loop-holds : tie.Need-loop-holds Inv-loop μ-loop
-unfolding kindsOf
-loop-holds c = (omega arith, (omega arith, (refl, refl)))
+loop-holds c = record { inside = omega arith; few = omega arith; room = refl; are = kinds-collected _ }
 
 end-of-requires : tie.Need-end-of-requires Inv-loop μ-loop
 end-of-requires c κs = omega arith
@@ -50,33 +54,32 @@ returns c =
     let b1 = c .before in
     let b3 = b1 .before .before in
     let b5 = b3 .before .before in
-    let b6 = b5 .before in
-    record { few = omega arith; room = b6 .loop .inv .1 .1 .0; are = sym (kinds-wrong _ _ _ _ _ _ (b5 .end-of .ensures .0) (b3 .kind-of .ensures) (b6 .loop .inv .0) (b5 .end-of .ensures .1 .1) (b6 .loop .inv .1 .0) (b6 .loop .inv .1 .1 .0) (sym (b1 .kind-right .ensures) ∙ not-true _ (c .if1 .taken))) ∙ b6 .loop .inv .1 .1 .1 }
+    let p = b5 .before .loop .inv in
+    record { few = omega arith; room = p .room; are = collect-wrong p (b5 .end-of .ensures .0) (b5 .end-of .ensures .1 .1) (sym (right-is _ _ (b3 .kind-of .ensures) (b1 .kind-right .ensures)) ∙ not-true _ (c .if1 .taken)) }
 
 array-write-kinds : tie.Need-array-write-kinds Inv-loop μ-loop
 array-write-kinds c =
     let b1 = c .before in
     let b3 = b1 .before .before in
     let b5 = b3 .before .before in
-    let b6 = b5 .before in
-    kinds-room _ _ _ _ _ _ (b5 .end-of .ensures .0) (b3 .kind-of .ensures) (b6 .loop .inv .0) (b5 .end-of .ensures .1 .1) (b6 .loop .inv .1 .0) (b6 .loop .inv .1 .1 .0) (sym (b1 .kind-right .ensures) ∙ not-false _ (c .if1 .left))
+    collect-room (b5 .before .loop .inv) (b5 .end-of .ensures .0) (b5 .end-of .ensures .1 .1) kind-fits (sym (right-is _ _ (b3 .kind-of .ensures) (b1 .kind-right .ensures)) ∙ not-false _ (c .if1 .left))
 
 add-n : tie.Need-add-n Inv-loop μ-loop
 add-n c =
     let b1 = c .before in
     let b3 = b1 .before .before in
     let b5 = b3 .before .before in
-    let b6 = b5 .before in
-    let q : b6 .loop .n < 8 = kinds-room _ _ _ _ _ _ (b5 .end-of .ensures .0) (b3 .kind-of .ensures) (b6 .loop .inv .0) (b5 .end-of .ensures .1 .1) (b6 .loop .inv .1 .0) (b6 .loop .inv .1 .1 .0) (sym (b1 .kind-right .ensures) ∙ not-false _ (c .if1 .left)) in omega arith
+    let q : b5 .before .loop .n < 8 = collect-room (b5 .before .loop .inv) (b5 .end-of .ensures .0) (b5 .end-of .ensures .1 .1) kind-fits (sym (right-is _ _ (b3 .kind-of .ensures) (b1 .kind-right .ensures)) ∙ not-false _ (c .if1 .left)) in omega arith
 
 returns-2 : tie.Need-returns-2 Inv-loop μ-loop
 returns-2 c =
-    let b1 = c .before in
-    let b2 = b1 .before in
+    let b2 = c .before .before in
     let b4 = b2 .before .before in
     let b6 = b4 .before .before in
-    let b7 = b6 .before in
-    record { few = (let q : b7 .loop .n < 8 = kinds-room _ _ _ _ _ _ (b6 .end-of .ensures .0) (b4 .kind-of .ensures) (b7 .loop .inv .0) (b6 .end-of .ensures .1 .1) (b7 .loop .inv .1 .0) (b7 .loop .inv .1 .1 .0) (sym (b2 .kind-right .ensures) ∙ not-false _ (b1 .if1 .left)) in omega arith); room = simp length-set (b7 .loop .inv .1 .1 .0); are = sym (kinds-last _ _ _ _ _ _ (b6 .end-of .ensures .0) (b4 .kind-of .ensures) (b7 .loop .inv .0) (b6 .end-of .ensures .1 .1) (b7 .loop .inv .1 .0) (b7 .loop .inv .1 .1 .0) (sym (b2 .kind-right .ensures) ∙ not-false _ (b1 .if1 .left)) (c .if2 .taken)) ∙ b7 .loop .inv .1 .1 .1 }
+    let p = b6 .before .loop .inv in
+    let r = sym (right-is _ _ (b4 .kind-of .ensures) (b2 .kind-right .ensures)) ∙ not-false _ (c .before .if1 .left) in
+    let q : b6 .before .loop .n < 8 = collect-room p (b6 .end-of .ensures .0) (b6 .end-of .ensures .1 .1) kind-fits r in
+    record { few = omega arith; room = simp length-set (p .room); are = collect-last p (b6 .end-of .ensures .0) (b6 .end-of .ensures .1 .1) kind-fits r (b4 .kind-of .ensures) (c .if2 .taken) }
 
 add-at : tie.Need-add-at Inv-loop μ-loop
 add-at c = omega arith
@@ -86,12 +89,11 @@ loop-less c = omega arith
 
 loop-again : tie.Need-loop-again Inv-loop μ-loop
 loop-again c =
-    let b1 = c .before in
-    let b2 = b1 .before in
+    let b2 = c .before .before in
     let b4 = b2 .before .before in
     let b6 = b4 .before .before in
-    let b7 = b6 .before in
-    (omega arith, ((let q : b7 .loop .n < 8 = kinds-room _ _ _ _ _ _ (b6 .end-of .ensures .0) (b4 .kind-of .ensures) (b7 .loop .inv .0) (b6 .end-of .ensures .1 .1) (b7 .loop .inv .1 .0) (b7 .loop .inv .1 .1 .0) (sym (b2 .kind-right .ensures) ∙ not-false _ (b1 .if1 .left)) in omega arith), (simp length-set (b7 .loop .inv .1 .1 .0), kinds-next _ _ _ _ _ _ (b6 .end-of .ensures .0) (b4 .kind-of .ensures) (b7 .loop .inv .0) (b6 .end-of .ensures .1 .1) (b7 .loop .inv .1 .0) (b7 .loop .inv .1 .1 .0) (sym (b2 .kind-right .ensures) ∙ not-false _ (b1 .if1 .left)) (c .if2 .left) ∙ b7 .loop .inv .1 .1 .1)))
+    let r = sym (right-is _ _ (b4 .kind-of .ensures) (b2 .kind-right .ensures)) ∙ not-false _ (c .before .if1 .left) in
+    collect-next (b6 .before .loop .inv) (b6 .end-of .ensures .0) (b6 .end-of .ensures .1 .1) kind-fits r (b4 .kind-of .ensures) (c .if2 .left)
 
 pub read-kinds-spec : {M : Type 1} → statement M
 read-kinds-spec =
