@@ -99,16 +99,13 @@ pub end-name : (ks : List ℕ) (i : ℕ) → length ks ≤ i → nameCount (drop
 unfolding nameCount
 end-name ks i h = rw (drop-of-length-le ks h)
 
-pub kind-few : (seen : List ℕ) (k : ℕ) → kindRight seen k ≡ true → length seen < 8
-unfolding kindRight
-kind-few seen k e = ltb-true _ _ (and-snd (ltb 0 k) _ (and-fst _ _ e))
-
 -- a word that may follow the kinds seen
 abbrev pub kindFits : List ℕ → List ℕ → Bool
 kindFits seen w = kindRight seen (kindOf w)
 
-pub kind-fits : (seen w : List ℕ) → kindFits seen w ≡ true → length seen < 8
-kind-fits seen w e = kind-few seen (kindOf w) e
+pub kind-few : (seen w : List ℕ) → kindFits seen w ≡ true → length seen < 8
+unfolding kindRight
+kind-few seen w e = ltb-true _ _ (and-snd (ltb 0 (kindOf w)) _ (and-fst _ _ e))
 
 kinds-from : (ws : List (List ℕ)) (seen : List ℕ) → collect kindFits kindOf seen ws ≡ kindsFrom seen ws
 unfolding collect kindsFrom

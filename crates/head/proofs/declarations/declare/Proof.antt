@@ -36,17 +36,14 @@ shared-slice-read-place-of c = omega arith
 place-of-requires : tie.Need-place-of-requires Inv-loop μ-loop
 place-of-requires c κs = omega arith
 
-mul-tab-2 : tie.Need-mul-tab-2 Inv-loop μ-loop
-mul-tab-2 c =
-    let b5 = c .before .before .before .before .before in
-    let b8 = b5 .before .before .before in
-    omega (arith, c .place-of .ensures, place-low (b5 .loop .i) (getD (b8 .args .kinds .now) (b5 .loop .i) 0) (omega arith))
-
 array-write-tab : tie.Need-array-write-tab Inv-loop μ-loop
 array-write-tab c =
     let b5 = c .before .before .before .before .before in
     let b8 = b5 .before .before .before in
     omega (arith, c .place-of .ensures, place-low (b5 .loop .i) (getD (b8 .args .kinds .now) (b5 .loop .i) 0) (omega arith))
+
+mul-tab-2 : tie.Need-mul-tab-2 Inv-loop μ-loop
+mul-tab-2 c = omega (arith, array-write-tab c)
 
 add-i : tie.Need-add-i Inv-loop μ-loop
 add-i c = omega arith

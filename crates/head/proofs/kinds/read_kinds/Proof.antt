@@ -1,11 +1,11 @@
 -- `kinds::read_kinds` meets its contract. The invariant: the kinds collected from the rest, after those stored, are those of the line. Assumes nothing.
 use native.Mathlib.Omega.{arith}
-use Rattle.head.proofs.WordLaws.{Collecting, collect-wrong, collect-room, collect-last, collect-next, kindFits, kind-fits, kinds-collected}
+use Rattle.head.proofs.WordLaws.{Collecting, collect-wrong, collect-room, collect-last, collect-next, kindFits, kind-few, kinds-collected}
 use Rattle.head.specs.Head.{kindOf, kindRight, kindsOf}
 use borrow.Author.Tests.{not-true, not-false}
 use lib.Seq.{length-take-le}
 use lib.ListN.{length, length-set}
-use Prim.Native.Nat.{ℕ, _-_, _<_}
+use Prim.Native.Nat.{ℕ, _-_}
 use mathlib.Core.Bool.{Bool}
 use mathlib.Core.List.{List}
 use mathlib.Core.Path.{_≡_, refl, sym, _∙_}
@@ -62,14 +62,10 @@ array-write-kinds c =
     let b1 = c .before in
     let b3 = b1 .before .before in
     let b5 = b3 .before .before in
-    collect-room (b5 .before .loop .inv) (b5 .end-of .ensures .0) (b5 .end-of .ensures .1 .1) kind-fits (sym (right-is _ _ (b3 .kind-of .ensures) (b1 .kind-right .ensures)) ∙ not-false _ (c .if1 .left))
+    collect-room (b5 .before .loop .inv) (b5 .end-of .ensures .0) (b5 .end-of .ensures .1 .1) kind-few (sym (right-is _ _ (b3 .kind-of .ensures) (b1 .kind-right .ensures)) ∙ not-false _ (c .if1 .left))
 
 add-n : tie.Need-add-n Inv-loop μ-loop
-add-n c =
-    let b1 = c .before in
-    let b3 = b1 .before .before in
-    let b5 = b3 .before .before in
-    let q : b5 .before .loop .n < 8 = collect-room (b5 .before .loop .inv) (b5 .end-of .ensures .0) (b5 .end-of .ensures .1 .1) kind-fits (sym (right-is _ _ (b3 .kind-of .ensures) (b1 .kind-right .ensures)) ∙ not-false _ (c .if1 .left)) in omega arith
+add-n c = omega (arith, array-write-kinds c)
 
 returns-2 : tie.Need-returns-2 Inv-loop μ-loop
 returns-2 c =
@@ -78,8 +74,7 @@ returns-2 c =
     let b6 = b4 .before .before in
     let p = b6 .before .loop .inv in
     let r = sym (right-is _ _ (b4 .kind-of .ensures) (b2 .kind-right .ensures)) ∙ not-false _ (c .before .if1 .left) in
-    let q : b6 .before .loop .n < 8 = collect-room p (b6 .end-of .ensures .0) (b6 .end-of .ensures .1 .1) kind-fits r in
-    record { few = omega arith; room = simp length-set (p .room); are = collect-last p (b6 .end-of .ensures .0) (b6 .end-of .ensures .1 .1) kind-fits r (b4 .kind-of .ensures) (c .if2 .taken) }
+    record { few = omega (arith, array-write-kinds (c .before)); room = simp length-set (p .room); are = collect-last p (b6 .end-of .ensures .0) (b6 .end-of .ensures .1 .1) kind-few r (b4 .kind-of .ensures) (c .if2 .taken) }
 
 add-at : tie.Need-add-at Inv-loop μ-loop
 add-at c = omega arith
@@ -93,7 +88,7 @@ loop-again c =
     let b4 = b2 .before .before in
     let b6 = b4 .before .before in
     let r = sym (right-is _ _ (b4 .kind-of .ensures) (b2 .kind-right .ensures)) ∙ not-false _ (c .before .if1 .left) in
-    collect-next (b6 .before .loop .inv) (b6 .end-of .ensures .0) (b6 .end-of .ensures .1 .1) kind-fits r (b4 .kind-of .ensures) (c .if2 .left)
+    collect-next (b6 .before .loop .inv) (b6 .end-of .ensures .0) (b6 .end-of .ensures .1 .1) kind-few r (b4 .kind-of .ensures) (c .if2 .left)
 
 pub read-kinds-spec : {M : Type 1} → statement M
 read-kinds-spec =

@@ -3,7 +3,9 @@ use native.Mathlib.Omega.{arith}
 use Rattle.spelling.proofs.SpellingLaws.{spelled-is}
 use Rattle.head.specs.Head.{wordRight}
 use borrow.Author.Tests.{not-true, not-false, lt-ltb, le-ltb}
-use mathlib.Core.Path.{sym, _∙_}
+use mathlib.Core.Bool.{not}
+use mathlib.Core.Path.{sym, ap, _∙_}
+use Rattle.layout.specs.Text.{has}
 use borrow.Author.Needs.{needs}
 use Rattle.head.proofs.names.name_right.Statement.{statement}
 use Rattle.head.proofs.names.name_right.Tie as tie
@@ -35,7 +37,7 @@ returns-3 c =
     let b1 = c .before in
     let b2 = b1 .before in
     let b3 = b2 .before in
-    rw (sym (b3 .before .is-spelling .ensures) ∙ not-false _ (b3 .if1 .left), lt-ltb _ _ (b2 .if2 .left), c .has-word .ensures, b1 .word-from .ensures .0)
+    rw (sym (b3 .before .is-spelling .ensures) ∙ not-false _ (b3 .if1 .left), lt-ltb _ _ (b2 .if2 .left)) (ap not (c .has-word .ensures ∙ ap (λ x. has x (b3 .before .before .before .before .args .seen .now)) (b1 .word-from .ensures .0)))
 
 pub name-right-spec : {M : Type 1} → statement M
 name-right-spec =

@@ -1,5 +1,5 @@
 -- `names::read_names` meets its contract. The invariant: the words collected from the rest, after those stored, are those of the line. Assumes nothing.
-use Prim.Native.Nat.{_<_, _-_}
+use Prim.Native.Nat.{_-_}
 use lib.Seq.{length-take-le}
 use native.Mathlib.Omega.{arith}
 use Rattle.head.proofs.WordLaws.{Collecting, collect-wrong, collect-room, collect-last, collect-next, word-few, word-spelled}
@@ -65,26 +65,18 @@ word-from-requires c κs =
     let b2 = b1 .before in
     (omega arith, word-spelled _ _ (sym (b2 .name-right .ensures) ∙ not-false _ (b1 .if1 .left)) .short)
 
-mul-words : tie.Need-mul-words Inv-loop μ-loop
-mul-words c =
-    let b2 = c .before .before in
-    let b3 = b2 .before in
-    let b6 = b3 .before .before .before in
-    let q : b6 .before .loop .n < 8 = collect-room (b6 .before .loop .inv) (b6 .end-of .ensures .0) (b6 .end-of .ensures .1 .1) word-few (sym (b3 .name-right .ensures) ∙ not-false _ (b2 .if1 .left)) in omega arith
-
 array-write-words : tie.Need-array-write-words Inv-loop μ-loop
 array-write-words c =
     let b2 = c .before .before in
     let b3 = b2 .before in
     let b6 = b3 .before .before .before in
-    let q : b6 .before .loop .n < 8 = collect-room (b6 .before .loop .inv) (b6 .end-of .ensures .0) (b6 .end-of .ensures .1 .1) word-few (sym (b3 .name-right .ensures) ∙ not-false _ (b2 .if1 .left)) in omega arith
+    collect-room (b6 .before .loop .inv) (b6 .end-of .ensures .0) (b6 .end-of .ensures .1 .1) word-few (sym (b3 .name-right .ensures) ∙ not-false _ (b2 .if1 .left))
+
+mul-words : tie.Need-mul-words Inv-loop μ-loop
+mul-words c = omega (arith, array-write-words c)
 
 add-n : tie.Need-add-n Inv-loop μ-loop
-add-n c =
-    let b2 = c .before .before in
-    let b3 = b2 .before in
-    let b6 = b3 .before .before .before in
-    let q : b6 .before .loop .n < 8 = collect-room (b6 .before .loop .inv) (b6 .end-of .ensures .0) (b6 .end-of .ensures .1 .1) word-few (sym (b3 .name-right .ensures) ∙ not-false _ (b2 .if1 .left)) in omega arith
+add-n c = omega (arith, array-write-words c)
 
 returns-2 : tie.Need-returns-2 Inv-loop μ-loop
 returns-2 c =
@@ -93,8 +85,7 @@ returns-2 c =
     let b7 = b4 .before .before .before in
     let p = b7 .before .loop .inv in
     let r = sym (b4 .name-right .ensures) ∙ not-false _ (b3 .if1 .left) in
-    let q : b7 .before .loop .n < 8 = collect-room p (b7 .end-of .ensures .0) (b7 .end-of .ensures .1 .1) word-few r in
-    record { few = omega arith; room = simp length-set (p .room); are = collect-last p (b7 .end-of .ensures .0) (b7 .end-of .ensures .1 .1) word-few r (c .before .word-from .ensures .0) (c .if2 .taken) }
+    record { few = omega (arith, array-write-words (c .before)); room = simp length-set (p .room); are = collect-last p (b7 .end-of .ensures .0) (b7 .end-of .ensures .1 .1) word-few r (c .before .word-from .ensures .0) (c .if2 .taken) }
 
 add-at : tie.Need-add-at Inv-loop μ-loop
 add-at c = omega arith
