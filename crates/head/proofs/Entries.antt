@@ -16,9 +16,9 @@ use Rattle.head.proofs.DeclareLaws.{place-low}
 use Rattle.head.proofs.Spellings.{sheet-spellings}
 
 -- ---- places
--- a place is its number's, up to 8
-place-apart : (a b k l : ℕ) → a < 8 → b < 8 → placeOf a k ≡ placeOf b l → a ≡ b
-place-apart a b k l h g e = go (eqb k 3) (eqb l 3) e
+-- symbols of one place are one symbol, whatever their kinds
+place-injective : (a b k l : ℕ) → a < 8 → b < 8 → placeOf a k ≡ placeOf b l → a ≡ b
+place-injective a b k l h g e = go (eqb k 3) (eqb l 3) e
   where
     go : (x y : Bool) → cond x (8 + a) a ≡ cond y (8 + b) b → a ≡ b
     go true true q = omega arith
@@ -50,7 +50,7 @@ declare-places i (x ∷ xs) [] tab j size few same h = absurd (omega arith)
 declare-places i (x ∷ xs) (k ∷ ks) tab zero size few same h =
     let z : i + 0 ≡ i = omega arith in
     let p : placeOf i k < length tab = omega (arith, place-low i k (omega arith)) in
-    rw z (declare-keeps (suc i) xs ks (set tab (placeOf i k) x) (placeOf i k) (λ j g e. let w : i ≡ suc i + j = place-apart i (suc i + j) k (getD ks j 0) (omega arith) (omega arith) e in omega arith) ∙ getD-set-same tab (placeOf i k) x 0 p)
+    rw z (declare-keeps (suc i) xs ks (set tab (placeOf i k) x) (placeOf i k) (λ j g e. let w : i ≡ suc i + j = place-injective i (suc i + j) k (getD ks j 0) (omega arith) (omega arith) e in omega arith) ∙ getD-set-same tab (placeOf i k) x 0 p)
 declare-places i (x ∷ xs) (k ∷ ks) tab (suc j) size few same h =
     let z : suc i + j ≡ i + suc j = omega arith in
     ap (λ n. getD (declare (suc i) xs ks (set tab (placeOf i k) x)) (placeOf n (getD ks j 0)) 0) (sym z)
