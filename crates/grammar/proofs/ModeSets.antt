@@ -6,7 +6,7 @@ use Prim.Native.Nat.{ℕ, suc, _+_, _-_, _/_, _%_, _^_, _≤_, _<_, min}
 use native.Mathlib.Nat.{add-zero, zero-add, pow-succ', zero-div}
 use native.Mathlib.Decide.{decLt}
 use native.Mathlib.Omega.{arith}
-use lib.ListN.{getD}
+use Rattle.spelling.specs.Spelling.{entryIn}
 use lib.Dec.{eqb, leb, ltb, lit<, eqb·zero-suc, eqb·suc-zero, eqb·suc-suc}
 use borrow.Author.Tests.{eqb-true, eqb-false, leb-true, lt-ltb, le-ltb, le-leb, lt-leb}
 use Rattle.token.specs.Token.{pick}
@@ -101,20 +101,20 @@ marked-twice mask m h = rw h refl
 module _ (decl : List ℕ) where
   -- a set with a mode more, as typed
   abbrev pub marked : ℕ → Mode → Marked
-  marked mask (forward k) = withMode mask (getD decl k 0) 0
-  marked mask (backward k) = withMode mask (getD decl k 0) 8
+  marked mask (forward k) = withMode mask (entryIn decl k) 0
+  marked mask (backward k) = withMode mask (entryIn decl k) 8
 
   marked-field : (mask : ℕ) (m : Mode) → isField decl m ≡ true → marked mask m ≡ markedOf mask (modeNumber decl m)
-  marked-field mask (forward k) h = with-field mask (getD decl k 0) 0 h ∙ ap (markedOf mask) (add-zero (getD decl k 0 - 9))
-  marked-field mask (backward k) h = with-field mask (getD decl k 0) 8 h
+  marked-field mask (forward k) h = with-field mask (entryIn decl k) 0 h ∙ ap (markedOf mask) (add-zero (entryIn decl k - 9))
+  marked-field mask (backward k) h = with-field mask (entryIn decl k) 8 h
 
   marked-none : (mask : ℕ) (m : Mode) → isField decl m ≡ false → marked mask m ≡ record { mask = mask; low = 7 }
-  marked-none mask (forward k) h = with-none mask (getD decl k 0) 0 h
-  marked-none mask (backward k) h = with-none mask (getD decl k 0) 8 h
+  marked-none mask (forward k) h = with-none mask (entryIn decl k) 0 h
+  marked-none mask (backward k) h = with-none mask (entryIn decl k) 8 h
 
   field-small : (m : Mode) → isField decl m ≡ true → modeNumber decl m < 16
-  field-small (forward k) h = let a = leb-true (getD decl k 0) 16 (and-both (leb 9 (getD decl k 0)) (leb (getD decl k 0) 16) h .1) in omega arith
-  field-small (backward k) h = let a = leb-true (getD decl k 0) 16 (and-both (leb 9 (getD decl k 0)) (leb (getD decl k 0) 16) h .1) in omega arith
+  field-small (forward k) h = let a = leb-true (entryIn decl k) 16 (and-both (leb 9 (entryIn decl k)) (leb (entryIn decl k) 16) h .1) in omega arith
+  field-small (backward k) h = let a = leb-true (entryIn decl k) 16 (and-both (leb 9 (entryIn decl k)) (leb (entryIn decl k) 16) h .1) in omega arith
 
   -- what a mode does: it is no field, or a field's that is new, or one that is there already
   data Step (mask : ℕ) (m : Mode) : Type 0 where

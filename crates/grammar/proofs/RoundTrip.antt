@@ -6,7 +6,7 @@ use Prim.Native.Nat.{ℕ, suc, _+_, _-_, _%_, _^_, _≤_, _<_}
 use native.Mathlib.Nat.{zero-add, zero-div}
 use native.Mathlib.Decide.{decLt}
 use native.Mathlib.Omega.{arith}
-use lib.ListN.{getD}
+use Rattle.spelling.specs.Spelling.{word, entryIn}
 use lib.Dec.{eqb}
 use borrow.Author.Tests.{le-ltb, lt-ltb, le-leb, ne-eqb}
 use Rattle.ctl.specs.Formula.{Form, tru, fls, lit, nlit, and, or, ex, ax, eu, au, er, ar}
@@ -62,7 +62,7 @@ modes-ascending : (A : ℕ) → Ascending 0 (modes A)
 unfolding modes
 modes-ascending A = ascending-keep (hasMode A) 0 allModes (ascending-count 0 16)
 
-module _ (at : ℕ → ℕ) (decl : List ℕ) where
+module _ (at : ℕ → List ℕ) (decl : List ℕ) where
   -- a mode's field is declared: what the declarations make of the mode as typed
   record Right (m : ℕ) : Type 0 where
     declared : isField decl (modeOf at m) ≡ true
@@ -74,12 +74,12 @@ module _ (at : ℕ → ℕ) (decl : List ℕ) where
       go : Dec (m < 8) → Right m
       go (yes l) =
           let i : m % 8 ≡ m = omega arith in
-          let e′ : getD decl (at m - 97) 0 ≡ 9 + m = rw i at e in
+          let e′ : entryIn decl (word (at m)) ≡ 9 + m = rw i at e in
           record { declared = rw (lt-ltb m 8 l, e′, le-leb 9 (9 + m) (omega arith), le-leb (9 + m) 16 (omega arith)) refl; number = rw (lt-ltb m 8 l, e′) (omega arith) }
       go (no l) =
           let l′ : 8 ≤ m = omega (arith, l) in
           let i : m % 8 ≡ m - 8 = omega arith in
-          let e′ : getD decl (at (m - 8) - 97) 0 ≡ 9 + (m - 8) = rw i at e in
+          let e′ : entryIn decl (word (at (m - 8))) ≡ 9 + (m - 8) = rw i at e in
           record { declared = rw (le-ltb m 8 l′, e′, le-leb 9 (9 + (m - 8)) (omega arith), le-leb (9 + (m - 8)) 16 (omega arith)) refl; number = rw (le-ltb m 8 l′, e′) (omega arith) }
 
   module _ (i : ℕ) where
@@ -138,7 +138,7 @@ module _ (at : ℕ → ℕ) (decl : List ℕ) where
     symbols : symbolWrong decl t ≡ false
     braces : bracesWrong decl t ≡ false
 
-  letter-right : (k : ℕ) → k < 8 → entryFor at decl k ≡ 1 + k → TreeRight (letter (at k - 97)) (Raw.sym k)
+  letter-right : (k : ℕ) → k < 8 → entryFor at decl k ≡ 1 + k → TreeRight (letter (word (at k))) (Raw.sym k)
   letter-right k h e =
       let z : 1 + k - 1 ≡ k = omega arith in
       record { is = rw (e, z) refl; symbols = rw (e, le-leb 1 (1 + k) (omega arith), le-leb (1 + k) 8 (omega arith)) refl; braces = refl }
@@ -174,7 +174,7 @@ module _ (at : ℕ → ℕ) (decl : List ℕ) where
   tree-right count c (ar A p q) h k = path-right A (braces-right A (h .0 .0) (k .0)) Ar (tree-right count c p (h .1) (k .1)) (tree-right count c q (h .2) (k .2))
 
 -- the canonical print of a formula over declared symbols is read as that formula, and nothing in it is refused
-pub print-parses : (at : ℕ → ℕ) (count : ℕ) (decl : List ℕ) (φ : Form) → Alphabet at count → Over count φ → Known at decl φ → (e : ℕ) × (lineAt (print at φ) decl 0 ≡ good (asRaw φ) e 9)
+pub print-parses : (at : ℕ → List ℕ) (count : ℕ) (decl : List ℕ) (φ : Form) → Alphabet at count → Over count φ → Known at decl φ → (e : ℕ) × (lineAt (print at φ) decl 0 ≡ good (asRaw φ) e 9)
 print-parses at count decl φ alpha h k =
     let r = line-parses (print at φ) decl (treeOf at φ) (print-derived at count alpha φ h) in
     let g = tree-right at decl count (alpha .few) φ h k in
@@ -182,5 +182,5 @@ print-parses at count decl φ alpha h k =
     (r .0, rw (g .is, x) at (r .1))
 
 -- so its positive form is the formula itself
-pub print-back : (at : ℕ → ℕ) (count : ℕ) (decl : List ℕ) (φ : Form) → Alphabet at count → Over count φ → Known at decl φ → (p : Raw) × (e : ℕ) × (lineAt (print at φ) decl 0 ≡ good p e 9) × (signed true p ≡ φ)
+pub print-back : (at : ℕ → List ℕ) (count : ℕ) (decl : List ℕ) (φ : Form) → Alphabet at count → Over count φ → Known at decl φ → (p : Raw) × (e : ℕ) × (lineAt (print at φ) decl 0 ≡ good p e 9) × (signed true p ≡ φ)
 print-back at count decl φ alpha h k = let r = print-parses at count decl φ alpha h k in (asRaw φ, r .0, r .1, positive-same φ)

@@ -5,14 +5,15 @@ use mathlib.Core.List.{List}
 use Prim.Native.Nat.{ℕ, suc, _+_, _*_, min}
 use native.Mathlib.Nat.{sub-zero}
 use native.Mathlib.Numerals.{add-one}
-use lib.ListN.{length, getD, drop}
+use lib.ListN.{length, drop}
+use Rattle.spelling.specs.Spelling.{entryIn}
 use lib.Dec.{eqb, leb}
 use Rattle.token.specs.declared.Modal.{Modal}
 use Rattle.token.specs.declared.Tok.{Tok}
 use Rattle.token.specs.declared.Tok.the-variants.{End, Zero, One, Letter, Capital, Operator, Infix, Not, Open, Close, OpenBrace, CloseBrace, Comma, Other}
 use Rattle.token.specs.Token.{pick, tokenAt, onOpen, onClose, onCapital, onEnd}
-use Rattle.token.specs.Tokens.{tokens}
-use Rattle.token.proofs.TokensLaws.{first, later, tokens-ahead}
+use Rattle.token.specs.Tokens.{within, tokensIn, tokens}
+use Rattle.token.proofs.TokensLaws.{first, later, ahead}
 use Rattle.operators.specs.declared.braced.Modes.{Modes}
 use Rattle.operators.specs.declared.kinds.Choice.{Choice}
 use Rattle.operators.specs.declared.kinds.Choice.the-variants.{Is, No as None}
@@ -71,53 +72,53 @@ module _ (s decl : List ℕ) where
   modes-onward go go′ (same-modes A e) k = k A e
 
   -- a token that is looked for
-  close-match : {a : Found} {a′ : Out} (k : Tok) → Matches a a′ → Matches (onClose k a nothing) (onClose k a′ bad)
-  close-match End h = both-none
-  close-match Zero h = both-none
-  close-match One h = both-none
-  close-match (Letter k) h = both-none
-  close-match (Capital k) h = both-none
-  close-match (Operator m) h = both-none
-  close-match (Infix m) h = both-none
-  close-match Not h = both-none
-  close-match Open h = both-none
-  close-match Close h = h
-  close-match OpenBrace h = both-none
-  close-match CloseBrace h = both-none
-  close-match Comma h = both-none
-  close-match Other h = both-none
+  close-match : (k : Tok) (t : Tree) (e : ℕ) → Matches (onClose k (tree t (tokensIn (within false k) (drop e s))) nothing) (onClose k (good (resolve decl t) e (lowOf decl t)) bad)
+  close-match End t e = both-none
+  close-match Zero t e = both-none
+  close-match One t e = both-none
+  close-match (Letter k) t e = both-none
+  close-match (Capital k) t e = both-none
+  close-match (Operator m) t e = both-none
+  close-match (Infix m) t e = both-none
+  close-match Not t e = both-none
+  close-match Open t e = both-none
+  close-match Close t e = both-found t e
+  close-match OpenBrace t e = both-none
+  close-match CloseBrace t e = both-none
+  close-match Comma t e = both-none
+  close-match Other t e = both-none
 
-  open-match : (a : Unit {0} → Found) (a′ : Unit {0} → Out) (k : Tok) → Matches (a tt) (a′ tt) → Matches (onOpen k a nothing) (onOpen k a′ bad)
-  open-match a a′ End h = both-none
-  open-match a a′ Zero h = both-none
-  open-match a a′ One h = both-none
-  open-match a a′ (Letter k) h = both-none
-  open-match a a′ (Capital k) h = both-none
-  open-match a a′ (Operator m) h = both-none
-  open-match a a′ (Infix m) h = both-none
-  open-match a a′ Not h = both-none
-  open-match a a′ Open h = h
-  open-match a a′ Close h = both-none
-  open-match a a′ OpenBrace h = both-none
-  open-match a a′ CloseBrace h = both-none
-  open-match a a′ Comma h = both-none
-  open-match a a′ Other h = both-none
+  open-match : (go : List Tok → Found) (go′ : ℕ → Out) → ((e : ℕ) → Matches (go (tokens (drop e s))) (go′ e)) → (k : Tok) (e : ℕ) → Matches (onOpen k (λ _. go (tokensIn (within false k) (drop e s))) nothing) (onOpen k (λ _. go′ e) bad)
+  open-match go go′ h End e = both-none
+  open-match go go′ h Zero e = both-none
+  open-match go go′ h One e = both-none
+  open-match go go′ h (Letter k) e = both-none
+  open-match go go′ h (Capital k) e = both-none
+  open-match go go′ h (Operator m) e = both-none
+  open-match go go′ h (Infix m) e = both-none
+  open-match go go′ h Not e = both-none
+  open-match go go′ h Open e = h e
+  open-match go go′ h Close e = both-none
+  open-match go go′ h OpenBrace e = both-none
+  open-match go go′ h CloseBrace e = both-none
+  open-match go go′ h Comma e = both-none
+  open-match go go′ h Other e = both-none
 
-  capital-match : {a : ℕ → Found} {a′ : ℕ → Out} (k : Tok) → ((c : ℕ) → Matches (a c) (a′ c)) → Matches (onCapital k a nothing) (onCapital k a′ bad)
-  capital-match End h = both-none
-  capital-match Zero h = both-none
-  capital-match One h = both-none
-  capital-match (Letter k) h = both-none
-  capital-match (Capital k) h = h k
-  capital-match (Operator m) h = both-none
-  capital-match (Infix m) h = both-none
-  capital-match Not h = both-none
-  capital-match Open h = both-none
-  capital-match Close h = both-none
-  capital-match OpenBrace h = both-none
-  capital-match CloseBrace h = both-none
-  capital-match Comma h = both-none
-  capital-match Other h = both-none
+  capital-match : (go : ℕ → List Tok → Found) (go′ : ℕ → ℕ → Out) → ((c e : ℕ) → Matches (go c (tokens (drop e s))) (go′ c e)) → (k : Tok) (e : ℕ) → Matches (onCapital k (λ c. go c (tokensIn (within false k) (drop e s))) nothing) (onCapital k (λ c. go′ c e) bad)
+  capital-match go go′ h End e = both-none
+  capital-match go go′ h Zero e = both-none
+  capital-match go go′ h One e = both-none
+  capital-match go go′ h (Letter k) e = both-none
+  capital-match go go′ h (Capital k) e = h k e
+  capital-match go go′ h (Operator m) e = both-none
+  capital-match go go′ h (Infix m) e = both-none
+  capital-match go go′ h Not e = both-none
+  capital-match go go′ h Open e = both-none
+  capital-match go go′ h Close e = both-none
+  capital-match go go′ h OpenBrace e = both-none
+  capital-match go go′ h CloseBrace e = both-none
+  capital-match go go′ h Comma e = both-none
+  capital-match go go′ h Other e = both-none
 
   end-match : {a : Found} {a′ : Out} (k : Tok) → Matches a a′ → Matches (onEnd k a nothing) (onEnd k a′ bad)
   end-match End h = h
@@ -136,7 +137,7 @@ module _ (s decl : List ℕ) where
   end-match Other h = both-none
 
   close-found : (t : Tree) (e : ℕ) → Matches (onClose (first (tokens (drop e s))) (tree t (later (tokens (drop e s)))) nothing) (onClose (tokenAt s e .tok) (good (resolve decl t) (tokenAt s e .next) (lowOf decl t)) bad)
-  close-found t e = let a = tokens-ahead s e in rw (a .now, a .rest) (close-match (tokenAt s e .tok) (both-found t (tokenAt s e .next)))
+  close-found t e = let a = ahead false s e in rw (a .now, a .rest) (close-match (tokenAt s e .tok) t (tokenAt s e .next))
 
   -- ---- units and formulas, from readers of their parts
   module _ (formula unit : List Tok → Found) (formula′ unit′ : ℕ → Out) (f : (at : ℕ) → Matches (formula (tokens (drop at s))) (formula′ at)) (u : (at : ℕ) → Matches (unit (tokens (drop at s))) (unit′ at)) where
@@ -152,26 +153,33 @@ module _ (s decl : List ℕ) where
         )
         (close-found (path b A t v) e))
 
+    -- the connective and the second operand
+    second-match : (k : ℕ) (A : List Mode) (t : Tree) (e : ℕ) → Matches (onCapital (first (tokens (drop e s))) (λ c. operandOn (length s + 1) formula A t (later (tokens (drop e s))) (choiceOf k c)) nothing)
+        (onCapital (tokenAt s e .tok) (λ c. operandFrom s decl formula′ (modeSet decl A) (resolve decl t) (min (lowest (someNoField decl A) (emptyOrTwice decl A)) (lowOf decl t)) (tokenAt s e .next) (choiceOf k c)) bad)
+    second-match k A t e =
+        let a = ahead false s e in
+        rw (a .now, a .rest) (capital-match (λ c r. operandOn (length s + 1) formula A t r (choiceOf k c)) _ (λ c p. operand-match A t p (choiceOf k c)) (tokenAt s e .tok) (tokenAt s e .next))
+
     path-match : (k : ℕ) (A : List Mode) (at : ℕ) → Matches (pathOn (length s + 1) formula k A (tokens (drop at s))) (pathFrom s decl formula′ k (modeSet decl A) (lowest (someNoField decl A) (emptyOrTwice decl A)) at)
     unfolding pathOn pathFrom
     path-match k A at =
-        let a = tokens-ahead s at in
+        let a = ahead false s at in
         rw (a .now, a .rest)
-        (open-match _ _ (tokenAt s at .tok)
-        (onward-match _ _ (f (tokenAt s at .next))
-        (λ t e.
-        let b = tokens-ahead s e in
-        rw (b .now, b .rest) (capital-match (tokenAt s e .tok) (λ c. operand-match A t (tokenAt s e .next) (choiceOf k c))))))
+        (open-match
+        (λ r. onward (formula r) (λ t r′. onCapital (first r′) (λ c. operandOn (length s + 1) formula A t (later r′) (choiceOf k c)) nothing))
+        (λ p. after (formula′ p) (λ t e low. onCapital (tokenAt s e .tok) (λ c. operandFrom s decl formula′ (modeSet decl A) t (min (lowest (someNoField decl A) (emptyOrTwice decl A)) low) (tokenAt s e .next) (choiceOf k c)) bad))
+        (λ p. onward-match (λ t r′. onCapital (first r′) (λ c. operandOn (length s + 1) formula A t (later r′) (choiceOf k c)) nothing) (λ t e low. onCapital (tokenAt s e .tok) (λ c. operandFrom s decl formula′ (modeSet decl A) t (min (lowest (someNoField decl A) (emptyOrTwice decl A)) low) (tokenAt s e .next) (choiceOf k c)) bad) (f p) (λ t e. second-match k A t e))
+        (tokenAt s at .tok) (tokenAt s at .next))
 
     modal-match : (m : Modal) (A : List Mode) (at : ℕ)
         → Matches (onward (unit (tokens (drop at s))) (λ t r. tree (modal m A t) r)) (after (unit′ at) (λ p e low. good (modalRaw m (modeSet decl A) p) e (min (lowest (someNoField decl A) (emptyOrTwice decl A)) low)))
     modal-match m A at = onward-match _ _ (u at) (λ t e. rw (low-join (someNoField decl A) (emptyOrTwice decl A) (symbolWrong decl t) (bracesWrong decl t)) (both-found (modal m A t) e))
 
-    unit-match : (k : Tok) (at : ℕ) → Matches (unitOn (length s + 1) formula unit k (tokens (drop at s))) (unitFrom s decl formula′ unit′ k at)
+    unit-match : (k : Tok) (at : ℕ) → Matches (unitOn (length s + 1) formula unit k (tokensIn (within false k) (drop at s))) (unitFrom s decl formula′ unit′ k at)
     unit-match End at = both-none
     unit-match Zero at = both-found zero at
     unit-match One at = both-found one at
-    unit-match (Letter k) at = rw (letter-low (getD decl k 0)) (both-found (letter k) at)
+    unit-match (Letter k) at = rw (letter-low (entryIn decl k)) (both-found (letter k) at)
     unit-match (Capital k) at = modes-onward _ _ (braces-match s decl at) (λ A e. path-match k A e)
     unit-match (Operator m) at = modes-onward _ _ (braces-match s decl at) (λ A e. modal-match m A e)
     unit-match (Infix m) at = both-none
@@ -188,7 +196,7 @@ module _ (s decl : List ℕ) where
     right-match true t e at = onward-match _ _ (f at) (λ v e′. rw (low-join (symbolWrong decl t) (bracesWrong decl t) (symbolWrong decl v) (bracesWrong decl v)) (both-found (infixed l t v) e′))
     right-match false t e at = both-found t e
 
-    rest-match : (k : Tok) (t : Tree) (e at : ℕ) → Matches (restOn (length s + 1) formula l t (tokens (drop e s)) k (tokens (drop at s))) (restFrom s decl formula′ l (resolve decl t) e (lowOf decl t) k at)
+    rest-match : (k : Tok) (t : Tree) (e at : ℕ) → Matches (restOn (length s + 1) formula l t (tokens (drop e s)) k (tokensIn (within false k) (drop at s))) (restFrom s decl formula′ l (resolve decl t) e (lowOf decl t) k at)
     rest-match End t e at = both-found t e
     rest-match Zero t e at = both-found t e
     rest-match One t e at = both-found t e
@@ -207,7 +215,7 @@ module _ (s decl : List ℕ) where
     level-match : (unit operand : List Tok → Found) (unit′ operand′ : ℕ → Out) (x : Bool) (at : ℕ) → Matches (unit (tokens (drop at s))) (unit′ at) → Matches (operand (tokens (drop at s))) (operand′ at)
         → Matches (levelOn (length s + 1) x unit operand formula l (tokens (drop at s))) (formulaFrom s decl x unit′ operand′ formula′ l at)
     level-match unit operand unit′ operand′ true at u o = u
-    level-match unit operand unit′ operand′ false at u o = onward-match _ _ o (λ t e. let a = tokens-ahead s e in rw (a .now, a .rest) (rest-match (tokenAt s e .tok) t e (tokenAt s e .next)))
+    level-match unit operand unit′ operand′ false at u o = onward-match _ _ o (λ t e. let a = ahead false s e in rw (a .now, a .rest) (rest-match (tokenAt s e .tok) t e (tokenAt s e .next)))
 
   mutual
     unfolding readFormula readUnit formulaAt unitAt
@@ -222,7 +230,7 @@ module _ (s decl : List ℕ) where
     pub units-match : (fuel at : ℕ) → Matches (readUnit (length s + 1) fuel (tokens (drop at s))) (unitAt s decl fuel at)
     units-match ℕ.zero at = both-none
     units-match (suc fuel) at =
-        let a = tokens-ahead s at in
+        let a = ahead false s at in
         rw (a .now, a .rest)
         (unit-match (λ r. readFormula (length s + 1) fuel 0 r) (λ r. readUnit (length s + 1) fuel r) (λ p. formulaAt s decl fuel 0 p) (λ p. unitAt s decl fuel p)
         (λ p. formula-match fuel 0 p) (λ p. units-match fuel p) (tokenAt s at .tok) (tokenAt s at .next))
@@ -234,5 +242,5 @@ module _ (s decl : List ℕ) where
       rw (sub-zero (length s))
       (onward-match _ _ (formula-match (5 * length s + 5) 0 0)
       (λ t e.
-      let a = tokens-ahead s e in
+      let a = ahead false s e in
       rw (a .now) (end-match (tokenAt s e .tok) (both-found t e))))

@@ -167,14 +167,14 @@ data Chosen (q c : ℕ) : Choice → Type 0 where
 
 choice-is : (q c : ℕ) → Chosen q c (choiceOf q c)
 unfolding choiceOf
-choice-is q c = go (eqb q 4) (eqb q 0) (eqb c 20) (eqb c 17) refl refl refl refl
+choice-is q c = go (eqb q 101) (eqb q 97) (eqb c 117) (eqb c 114) refl refl refl refl
   where
-    go : (x y z w : Bool) → eqb q 4 ≡ x → eqb q 0 ≡ y → eqb c 20 ≡ z → eqb c 17 ≡ w → Chosen q c (pick x (pick z (Is Eu) (pick w (Is Er) None)) (pick y (pick z (Is Au) (pick w (Is Ar) None)) None))
-    go true y true w e f g h = chosen Eu (eqb-true q 4 e) (eqb-true c 20 g)
-    go true y false true e f g h = chosen Er (eqb-true q 4 e) (eqb-true c 17 h)
+    go : (x y z w : Bool) → eqb q 101 ≡ x → eqb q 97 ≡ y → eqb c 117 ≡ z → eqb c 114 ≡ w → Chosen q c (pick x (pick z (Is Eu) (pick w (Is Er) None)) (pick y (pick z (Is Au) (pick w (Is Ar) None)) None))
+    go true y true w e f g h = chosen Eu (eqb-true q 101 e) (eqb-true c 117 g)
+    go true y false true e f g h = chosen Er (eqb-true q 101 e) (eqb-true c 114 h)
     go true y false false e f g h = not-chosen
-    go false true true w e f g h = chosen Au (eqb-true q 0 f) (eqb-true c 20 g)
-    go false true false true e f g h = chosen Ar (eqb-true q 0 f) (eqb-true c 17 h)
+    go false true true w e f g h = chosen Au (eqb-true q 97 f) (eqb-true c 117 g)
+    go false true false true e f g h = chosen Ar (eqb-true q 97 f) (eqb-true c 114 h)
     go false true false false e f g h = not-chosen
     go false false z w e f g h = not-chosen
 

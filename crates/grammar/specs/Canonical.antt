@@ -1,8 +1,8 @@
 -- Positive formulas as typed ones, and what the declarations must say for their canonical prints to be read. Assumes nothing: these are definitions.
 use mathlib.Core.Path.{_≡_}
 use mathlib.Core.List.{List}
-use Prim.Native.Nat.{ℕ, _+_, _-_, _%_, _<_}
-use lib.ListN.{getD}
+use Prim.Native.Nat.{ℕ, _+_, _%_, _<_}
+use Rattle.spelling.specs.Spelling.{word, entryIn}
 use Rattle.ctl.specs.Formula.{Form, tru, fls, lit, nlit, and, or, ex, ax, eu, au, er, ar}
 use Rattle.ctl.specs.Lists.{_∈_}
 use Rattle.ctl.specs.Modes.{modes}
@@ -24,16 +24,16 @@ asRaw (au A p q) = Raw.au A (asRaw p) (asRaw q)
 asRaw (er A p q) = Raw.er A (asRaw p) (asRaw q)
 asRaw (ar A p q) = Raw.ar A (asRaw p) (asRaw q)
 
--- `letter` gives each symbol's letter, as a byte; `decl` has an entry for each letter of the alphabet
-module _ (letter : ℕ → ℕ) (decl : List ℕ) where
-  -- the entry of symbol k's letter
+-- `spell` gives each symbol's spelling, `decl` are declarations
+module _ (spell : ℕ → List ℕ) (decl : List ℕ) where
+  -- the entry of symbol k's spelling
   abbrev pub entryFor : ℕ → ℕ
-  entryFor k = getD decl (letter k - 97) 0
+  entryFor k = entryIn decl (word (spell k))
 
   -- a set of modes is not empty, and the fields of its modes are declared as fields: mode m goes along the field m % 8
   abbrev pub FieldsKnown : ℕ → Type 0
   FieldsKnown A = (0 < A) × ((m : ℕ) → m ∈ modes A → entryFor (m % 8) ≡ 9 + m % 8)
 
-  -- each letter of a formula is declared as a mark or a name, each field of its modes as a field, and no set of modes is empty
+  -- each symbol of a formula is declared as a mark or a name, each field of its modes as a field, and no set of modes is empty
   abbrev pub Known : Form → Type 0
   Known p = Uses (λ k. entryFor k ≡ 1 + k) FieldsKnown p

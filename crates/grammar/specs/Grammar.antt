@@ -3,8 +3,8 @@
 use mathlib.Core.Bool.{Bool, true, false, not, _&&_, _||_}
 use mathlib.Core.List.{List, [], _∷_, _++_, map}
 use Prim.Native.Nat.{ℕ, suc, _+_, _-_}
-use lib.ListN.{getD}
 use lib.Dec.{leb, eqb}
+use Rattle.spelling.specs.Spelling.{entryIn}
 use Rattle.token.specs.declared.Modal.{Modal}
 use Rattle.token.specs.declared.Tok.{Tok}
 use Rattle.token.specs.declared.Tok.the-variants.{Zero, One, Letter, Capital, Operator, Infix, Not, Open, Close, OpenBrace, CloseBrace, Comma}
@@ -20,7 +20,7 @@ use Rattle.operators.specs.Operators.{modal as modalRaw, binary as pathRaw}
 use Rattle.syntax.specs.Parse.{infix·}
 
 -- ---- formulas as typed
--- A mode: a letter goes forward, its capital backward. Letters and capitals are numbers, their places in the alphabet from 0
+-- A mode: a spelling goes forward; with its first letter in capital, backward. A spelling is a number (spelling: word)
 pub data Mode : Type 0 where
   forward backward : ℕ → Mode
 
@@ -49,22 +49,22 @@ commas (m ∷ (n ∷ r)) = modeToken m ∷ Comma ∷ commas (n ∷ r)
 abbrev pub braces : List Mode → List Tok
 braces A = OpenBrace ∷ commas A ++ CloseBrace ∷ []
 
--- the capital before the braces, E (4) or A (0), and the one between the operands, U (20) or R (17)
+-- the capital before the braces, E (101) or A (97), and the one between the operands, U (117) or R (114), each by its lower-case letter
 abbrev pub quantifier : Binary → ℕ
-quantifier Eu = 4
-quantifier Au = 0
-quantifier Er = 4
-quantifier Ar = 0
+quantifier Eu = 101
+quantifier Au = 97
+quantifier Er = 101
+quantifier Ar = 97
 
 abbrev pub connective : Binary → ℕ
-connective Eu = 20
-connective Au = 20
-connective Er = 17
-connective Ar = 17
+connective Eu = 117
+connective Au = 117
+connective Er = 114
+connective Ar = 114
 
 -- In the rules `∷` binds stronger than `++`: `Open ∷ ts ++ Close ∷ []` is a bracket, the tokens ts, and a bracket
 mutual
-  -- A unit is `0`, `1`, a letter, a bracketed formula, `!` before a unit, one of EX AX EF AF EG AG with braces and a unit,
+  -- A unit is `0`, `1`, a symbol, a bracketed formula, `!` before a unit, one of EX AX EF AF EG AG with braces and a unit,
   -- or E or A with braces and `(formula U formula)` or `(formula R formula)`
   pub data IsUnit : List Tok → Tree → Type 0 where
     is-zero : IsUnit (Zero ∷ []) zero
@@ -87,21 +87,21 @@ mutual
 abbrev pub Line : List ℕ → Tree → Type 0
 Line s t = IsFormula 0 (tokens s) t
 
--- ---- the symbols, in the declarations: a letter's entry is 0 where it is undeclared, 1 + i for the mark or name i, 9 + i for the field i
+-- ---- the symbols, in the declarations: a spelling's entry is 0 where it is undeclared, 1 + i for the mark or name i, 9 + i for the field i
 module _ (decl : List ℕ) where
   abbrev pub entryOf : ℕ → ℕ
-  entryOf k = getD decl k 0
+  entryOf k = entryIn decl k
 
-  -- the letter is a mark or a name
+  -- the spelling is that of a mark or a name
   abbrev pub isSymbol : ℕ → Bool
   isSymbol k = leb 1 (entryOf k) && leb (entryOf k) 8
 
-  -- the mode's letter is a field
+  -- the mode's spelling is that of a field
   abbrev pub isField : Mode → Bool
   isField (forward k) = leb 9 (entryOf k) && leb (entryOf k) 16
   isField (backward k) = leb 9 (entryOf k) && leb (entryOf k) 16
 
-  -- the number of a mode whose letter is the field i: i forward, i + 8 backward
+  -- the number of a mode along the field i: i forward, i + 8 backward
   abbrev pub modeNumber : Mode → ℕ
   modeNumber (forward k) = entryOf k - 9
   modeNumber (backward k) = entryOf k - 9 + 8
@@ -124,7 +124,7 @@ module _ (decl : List ℕ) where
   resolve (modal m A t) = modalRaw m (modeSet A) (resolve t)
   resolve (path b A t u) = pathRaw b (modeSet A) (resolve t) (resolve u)
 
-  -- 7: some letter of the formula is no mark and no name, or some mode's letter is no field
+  -- 7: some symbol of the formula is no mark and no name, or some mode's is no field
   abbrev pub someNoField : List Mode → Bool
   someNoField A = anyOf (λ m. not (isField m)) A
 
