@@ -27,8 +27,8 @@ use Rattle.ctl.proofs.ModeLaws.{modes-in, mode-lt}
 use Rattle.ctl.proofs.UsesLaws.{uses-raw}
 use Rattle.operators.specs.Operators.{modal as modalRaw, binary as pathRaw}
 use Rattle.grammar.specs.Grammar.{Mode, forward, backward, Tree, zero as zeroTree, one, letter, neg, infixed, modal, path, entryOf, isSymbol, isField, modeNumber, holdsMode, modeSet, resolve, someNoField, symbolWrong, emptyOrTwice, bracesWrong}
-use Rattle.head.specs.Head.{letters}
-use Rattle.head.proofs.Letters.{sheet-letters}
+use Rattle.head.specs.Head.{spellings}
+use Rattle.head.proofs.Spellings.{sheet-spellings}
 use Rattle.sheet.specs.Refusal.{decls, readRefusal}
 use Rattle.sheet.specs.Reading.{formulas}
 use Rattle.sheet.specs.Symbols.{MarkOrName, Field, Fields, Kinded}
@@ -99,10 +99,10 @@ bit-some zero i h = absurd (rw (zero-div (2 ^ i)) at h)
 bit-some (suc x) i h = omega arith
 
 -- the modes of a set along fields are modes of declared symbols
-pub fields-declared : (s : List ℕ) (A : ℕ) → Fields s A → DeclaredAll (length (letters s)) A
+pub fields-declared : (s : List ℕ) (A : ℕ) → Fields s A → DeclaredAll (length (spellings s)) A
 fields-declared s A x = (x .sixteen, λ m i. go m (x .each m i .0) (mode-lt (modes-in A i .0)) (decLt m 8))
   where
-    go : (m : ℕ) → m % 8 < length (letters s) → m < 16 → Dec (m < 8) → Declared (length (letters s)) m
+    go : (m : ℕ) → m % 8 < length (spellings s) → m < 16 → Dec (m < 8) → Declared (length (spellings s)) m
     go m h l (yes k) = inl (omega arith)
     go m h l (no k) = inr (omega arith, omega arith)
 
@@ -120,14 +120,14 @@ module _ (s : List ℕ) (z : readRefusal s ≡ 0) where
       let r = field-iff s (right-kinds s z) k .0 t in
       let i = r .3 in
       let h = r .2 .0 in
-      let f = sheet-letters s .few in
+      let f = sheet-spellings s .few in
       let q : r .0 ≡ modeNumber (decls s) (forward k) % 8 = omega arith in
       (omega arith, subst (Field s) q (r .2))
   mode-field (backward k) t =
       let r = field-iff s (right-kinds s z) k .0 t in
       let i = r .3 in
       let h = r .2 .0 in
-      let f = sheet-letters s .few in
+      let f = sheet-spellings s .few in
       let q : r .0 ≡ modeNumber (decls s) (backward k) % 8 = omega arith in
       (omega arith, subst (Field s) q (r .2))
 
@@ -159,5 +159,5 @@ module _ (s : List ℕ) (z : readRefusal s ≡ 0) where
       subst (Kinded s) (sym (x .is)) (tree-uses (MarkOrName s) (Fields s) (decls s) symbol-kind set-fields (x .tree) (x .symbols-right) (x .braces-right))
 
   -- so all its symbols and fields are declared
-  pub formulas-over : (p : Raw) → p ∈ formulas s → OverRaw (length (letters s)) p
+  pub formulas-over : (p : Raw) → p ∈ formulas s → OverRaw (length (spellings s)) p
   formulas-over p m = uses-raw (λ k h. h .0) (fields-declared s) p (formulas-kinds p m)

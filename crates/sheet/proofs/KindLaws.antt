@@ -1,23 +1,24 @@
--- The declarations of a sheet say what lines 1 and 2 do: a letter is taken for a mark or a name exactly if it is declared as one, and for a field exactly if it is
+-- The declarations of a sheet say what lines 1 and 2 do: a spelling is taken for a mark or a name exactly if it is declared as one, and for a field exactly if it is
 -- declared as one. Assumes nothing.
 use mathlib.Core.Path.{_≡_, refl, sym, ap, _∙_}
 use mathlib.Core.Logic.{_⊎_, inl, inr, _↔_}
 use mathlib.Core.Bool.{Bool, true, false, cond, not, _&&_, _||_}
 use mathlib.Core.List.{List, [], _∷_, _++_, List·Memᴰ·not-nil, List·Memᴰ·append-cases, List·Memᴰ·eq-of-singleton}
-use Prim.Native.Nat.{ℕ, _+_, _-_, _≤_, _<_}
+use Prim.Native.Nat.{ℕ, suc, _+_, _≤_, _<_}
 use native.Mathlib.Omega.{arith}
 use native.Mathlib.Decide.{ℕ-discrete}
 use lib.Dec.{T, leb, ltb, eqb, leb→le, le→leb}
 use lib.ListN.{length, getD}
+use Rattle.spelling.specs.Spelling.{word}
 use borrow.Author.Tests.{eqb-true, eqb-false, ltb-true}
 use Rattle.ctl.specs.Lists.{_∈_}
 use Rattle.ctl.proofs.BoolLaws.{and-0, and-1, and-in, and-both}
 use Rattle.ctl.proofs.ListLaws.{find, getD-in}
 use Rattle.grammar.specs.Grammar.{forward, entryOf, isSymbol, isField}
 use Rattle.layout.specs.Text.{same, split}
-use Rattle.head.specs.Head.{space, markWord, nameWord, fieldWord, nameCount, kindOf, kindRight, kindsFrom, kindsOf, letters, kinds}
+use Rattle.head.specs.Head.{space, markWord, nameWord, fieldWord, nameCount, kindOf, kindRight, kindsFrom, kindsOf, spellings, kinds}
 use Rattle.layout.specs.Layout.{lineOf}
-use Rattle.head.proofs.Letters.{sheet-letters}
+use Rattle.head.proofs.Spellings.{sheet-spellings}
 use Rattle.head.proofs.Entries.{sheet-entry, sheet-no-entry}
 use Rattle.sheet.specs.Refusal.{decls}
 use Rattle.sheet.specs.Symbols.{DeclaredAs, MarkOrName, Field}
@@ -61,8 +62,8 @@ mark-or-name : (n : ℕ) → Kind n → (n ≡ 3 → ⊥) → Dec (n ≡ 1) → 
 mark-or-name n h f (yes e) = inl e
 mark-or-name n h f (no e) = inr (omega arith)
 
--- ---- the entry of a letter, where each letter has a kind
-module _ (s : List ℕ) (c : length (kinds s) ≡ length (letters s)) where
+-- ---- the entry of a spelling, where each symbol has a kind
+module _ (s : List ℕ) (c : length (kinds s) ≡ length (spellings s)) where
   data Entry (k : ℕ) : Type 0 where
     none : entryOf (decls s) k ≡ 0 → Entry k
     symbol : (j : ℕ) → DeclaredAs s k j → MarkOrName s j → entryOf (decls s) k ≡ 1 + j → Entry k
@@ -74,24 +75,26 @@ module _ (s : List ℕ) (c : length (kinds s) ≡ length (letters s)) where
       let h = d .0 in
       symbol j d (h, mark-or-name (getD (kinds s) j 0) (sheet-kind s j (omega arith)) (eqb-false _ _ e) (ℕ-discrete (getD (kinds s) j 0) 1)) q
 
-  entry : (k : ℕ) → Entry k
-  entry k = go (find (length (letters s)) (λ j. eqb (getD (letters s) j 0) (97 + k)))
-    where
-      go : ((j : ℕ) × (j < length (letters s)) × (eqb (getD (letters s) j 0) (97 + k) ≡ true)) ⊎ ((j : ℕ) → j < length (letters s) → eqb (getD (letters s) j 0) (97 + k) ≡ false) → Entry k
-      go (inl r) =
-          let l = eqb-true (getD (letters s) (r .0) 0) (97 + k) (r .2) in
-          let h = r .1 in
-          let i : getD (letters s) (r .0) 0 - 97 ≡ k = omega arith in
-          declared k (r .0) (h, l) (eqb (getD (kinds s) (r .0) 0) 3) refl (ap (λ (n : ℕ). getD (decls s) n 0) (sym i) ∙ sheet-entry s (r .0) h (omega arith))
-      go (inr f) =
-          let i : 97 + k - 97 ≡ k = omega arith in
-          none (ap (λ (n : ℕ). getD (decls s) n 0) (sym i) ∙ sheet-no-entry s (97 + k) (omega arith) (λ j h. eqb-false (getD (letters s) j 0) (97 + k) (f j h)))
+  -- the entry at a place
+  place-entry : (j : ℕ) (b : Bool) → suc (cond b (8 + j) j) ≡ cond b (9 + j) (1 + j)
+  place-entry j true = omega arith
+  place-entry j false = omega arith
 
-  -- a letter outside braces is right exactly if it is declared as a mark or a name, and its entry gives that symbol
+  entry : (k : ℕ) → Entry k
+  entry k = go (find (length (spellings s)) (λ j. eqb (word (getD (spellings s) j [])) k))
+    where
+      go : ((j : ℕ) × (j < length (spellings s)) × (eqb (word (getD (spellings s) j [])) k ≡ true)) ⊎ ((j : ℕ) → j < length (spellings s) → eqb (word (getD (spellings s) j [])) k ≡ false) → Entry k
+      go (inl r) =
+          let l = eqb-true (word (getD (spellings s) (r .0) [])) k (r .2) in
+          let b = eqb (getD (kinds s) (r .0) 0) 3 in
+          declared k (r .0) (r .1, l) b refl (ap (entryOf (decls s)) (sym l) ∙ sheet-entry s (r .0) (r .1) c ∙ place-entry (r .0) b)
+      go (inr f) = none (sheet-no-entry s k (λ j h. eqb-false (word (getD (spellings s) j [])) k (f j h)))
+
+  -- a spelling outside braces is right exactly if it is declared as a mark or a name, and its entry gives that symbol
   pub symbol-iff : (k : ℕ) → T (isSymbol (decls s) k) ↔ ((j : ℕ) × DeclaredAs s k j × MarkOrName s j × (entryOf (decls s) k ≡ 1 + j))
   symbol-iff k = (
     λ t. out (leb→le 1 (entryOf (decls s) k) (and-0 (leb 1 (entryOf (decls s) k)) (leb (entryOf (decls s) k) 8) t)) (leb→le (entryOf (decls s) k) 8 (and-1 (leb 1 (entryOf (decls s) k)) (leb (entryOf (decls s) k) 8) t)) (entry k),
-    λ r. (let h = r .2 .0 in let e = r .3 in let f = sheet-letters s .few in and-in (leb 1 (entryOf (decls s) k)) (leb (entryOf (decls s) k) 8) (le→leb 1 (entryOf (decls s) k) (omega arith)) (le→leb (entryOf (decls s) k) 8 (omega arith))),
+    λ r. (let h = r .2 .0 in let e = r .3 in let f = sheet-spellings s .few in and-in (leb 1 (entryOf (decls s) k)) (leb (entryOf (decls s) k) 8) (le→leb 1 (entryOf (decls s) k) (omega arith)) (le→leb (entryOf (decls s) k) 8 (omega arith))),
   )
     where
       out : 1 ≤ entryOf (decls s) k → entryOf (decls s) k ≤ 8 → Entry k → (j : ℕ) × DeclaredAs s k j × MarkOrName s j × (entryOf (decls s) k ≡ 1 + j)
@@ -99,14 +102,14 @@ module _ (s : List ℕ) (c : length (kinds s) ≡ length (letters s)) where
       out l h (symbol j d m e) = (j, d, m, e)
       out l h (field j d m e) = absurd (omega arith)
 
-  -- a letter in braces is right, forward and backward, exactly if it is declared as a field, and its entry gives that symbol
+  -- a spelling in braces is right, forward and backward, exactly if it is declared as a field, and its entry gives that symbol
   pub field-iff : (k : ℕ) → T (isField (decls s) (forward k)) ↔ ((j : ℕ) × DeclaredAs s k j × Field s j × (entryOf (decls s) k ≡ 9 + j))
   field-iff k = (
     λ t. out (leb→le 9 (entryOf (decls s) k) (and-0 (leb 9 (entryOf (decls s) k)) (leb (entryOf (decls s) k) 16) t)) (entry k),
-    λ r. (let h = r .2 .0 in let e = r .3 in let f = sheet-letters s .few in and-in (leb 9 (entryOf (decls s) k)) (leb (entryOf (decls s) k) 16) (le→leb 9 (entryOf (decls s) k) (omega arith)) (le→leb (entryOf (decls s) k) 16 (omega arith))),
+    λ r. (let h = r .2 .0 in let e = r .3 in let f = sheet-spellings s .few in and-in (leb 9 (entryOf (decls s) k)) (leb (entryOf (decls s) k) 16) (le→leb 9 (entryOf (decls s) k) (omega arith)) (le→leb (entryOf (decls s) k) 16 (omega arith))),
   )
     where
       out : 9 ≤ entryOf (decls s) k → Entry k → (j : ℕ) × DeclaredAs s k j × Field s j × (entryOf (decls s) k ≡ 9 + j)
       out l (none e) = absurd (omega arith)
-      out l (symbol j d m e) = absurd (let h = m .0 in let f = sheet-letters s .few in omega arith)
+      out l (symbol j d m e) = absurd (let h = m .0 in let f = sheet-spellings s .few in omega arith)
       out l (field j d m e) = (j, d, m, e)

@@ -12,7 +12,7 @@ use Rattle.ctl.specs.Lists.{_∈_, anyOf}
 use Rattle.ctl.proofs.BoolLaws.{true-and-false}
 use Rattle.syntax.specs.Parse.{Out, good, bad}
 use Rattle.layout.specs.Layout.{lengthWrong, byteWrong, layoutRight, texts}
-use Rattle.head.specs.Head.{kinds, letters, layoutRefusal}
+use Rattle.head.specs.Head.{kinds, spellings, layoutRefusal}
 use Rattle.sheet.specs.Refusal.{decls, read, unread, finds, namesWrong, kindsWrong, grammarWrong, symbolsWrong, bracesWrong, firstOf, conditions, readRefusal}
 use Rattle.sheet.specs.Sheet.{foundRefusal, lineRefusal, lowest, sheetRefusal}
 
@@ -117,13 +117,13 @@ module _ (s : List ℕ) (e : readRefusal s ≡ 0) where
   right-layout = not-false (layoutRight s) (none (not (layoutRight s)) (List·Memᴰ·tail (List·Memᴰ·tail (List·Memᴰ·head refl))))
 
   -- there are symbols, and a kind for each
-  pub right-kinds : length (kinds s) ≡ length (letters s)
+  pub right-kinds : length (kinds s) ≡ length (spellings s)
   unfolding conditions
-  right-kinds = eqb-true _ _ (not-false (eqb (length (kinds s)) (length (letters s))) (none (kindsWrong s) (List·Memᴰ·tail (List·Memᴰ·tail (List·Memᴰ·tail (List·Memᴰ·tail (List·Memᴰ·head refl)))))))
+  right-kinds = eqb-true _ _ (not-false (eqb (length (kinds s)) (length (spellings s))) (none (kindsWrong s) (List·Memᴰ·tail (List·Memᴰ·tail (List·Memᴰ·tail (List·Memᴰ·tail (List·Memᴰ·head refl)))))))
 
-  pub some-symbols : 1 ≤ length (letters s)
+  pub some-symbols : 1 ≤ length (spellings s)
   unfolding conditions
-  some-symbols = go (length (letters s)) (none (namesWrong s) (List·Memᴰ·tail (List·Memᴰ·tail (List·Memᴰ·tail (List·Memᴰ·head refl)))))
+  some-symbols = go (length (spellings s)) (none (namesWrong s) (List·Memᴰ·tail (List·Memᴰ·tail (List·Memᴰ·tail (List·Memᴰ·head refl)))))
     where
       go : (n : ℕ) → eqb n 0 ≡ false → 1 ≤ n
       go zero e = absurd (true-and-false (eqb 0 0) refl e)

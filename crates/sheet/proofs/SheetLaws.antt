@@ -13,7 +13,7 @@ use native.Mathlib.Decide.{decLe}
 use Rattle.ctl.proofs.BoolLaws.{and-both}
 use Rattle.layout.specs.declared.formulas.Span.{Span}
 use Rattle.layout.specs.Layout.{lines, texts, textsOf, linesFrom, endsRight, startsRight, layoutRight, LastText, goalOf, lastOf}
-use Rattle.head.specs.Head.{letters, kinds, layoutRefusal, Accepted, HeadRead}
+use Rattle.head.specs.Head.{spellings, kinds, layoutRefusal, Accepted, HeadRead}
 use Rattle.layout.proofs.ScanLaws.{part-length}
 use Rattle.layout.proofs.LineLaws.{lines-end}
 use Rattle.layout.proofs.FormulaTexts.{texts-length}
@@ -70,7 +70,7 @@ module _ (s tab′ : List ℕ) (h : Head) (x : HeadRead s h) where
             then = λ q. let six : 6 ≤ formulaRefusal s = lowest-six 9 (decls s) (texts s) (omega arith) in absurd (omega (arith, low-is));
           }
 
-      pub sheet-right : 9 ≤ f .low → SheetRead s tab′ (record { refusal = 0; symbols = h .count; letters = h .letters; kinds = h .kinds; lines = f .lines; count = f .count; ends = f .ends })
+      pub sheet-right : 9 ≤ f .low → SheetRead s tab′ (record { refusal = 0; symbols = h .count; words = h .words; kinds = h .kinds; lines = f .lines; count = f .count; ends = f .ends })
       unfolding sheetRefusal
       sheet-right l =
           record {
@@ -78,7 +78,7 @@ module _ (s tab′ : List ℕ) (h : Head) (x : HeadRead s h) where
             then = λ q.
                 record {
                   symbols = acc .count;
-                  letters-are = acc .letters-are;
+                  words-are = acc .words-are;
                   kinds-are = acc .kinds-are;
                   lines = y .lines ∙ ap length texts-are;
                   stored = stored;

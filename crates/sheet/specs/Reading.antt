@@ -1,11 +1,11 @@
--- What a sheet says that is not refused: its globals and its goal as typed, a symbol's letter, and whether it is a name. Assumes nothing.
+-- What a sheet says that is not refused: its globals and its goal as typed, a symbol's spelling, and whether it is a name. Assumes nothing.
 use mathlib.Core.Bool.{Bool}
 use mathlib.Core.List.{List, [], _∷_}
 use Prim.Native.Nat.{ℕ}
 use lib.ListN.{getD}
 use lib.Dec.{eqb}
 use Rattle.ctl.specs.Raw.{Raw}
-use Rattle.head.specs.Head.{letters, kinds}
+use Rattle.head.specs.Head.{spellings, kinds}
 use Rattle.layout.specs.Layout.{texts}
 use Rattle.sheet.specs.Refusal.{decls}
 use Rattle.sheet.specs.Sheet.{trees}
@@ -25,9 +25,9 @@ goalOf (p ∷ q ∷ r) = goalOf (q ∷ r)
 abbrev pub formulas : List ℕ → List Raw
 formulas s = trees (decls s) (texts s)
 
--- a symbol's letter; whether a symbol is a name (kinds: 1 mark, 2 name, 3 field)
-abbrev pub letterOf : List ℕ → ℕ → ℕ
-letterOf s k = getD (letters s) k 0
+-- a symbol's spelling; whether a symbol is a name (kinds: 1 mark, 2 name, 3 field)
+abbrev pub spellOf : List ℕ → ℕ → List ℕ
+spellOf s k = getD (spellings s) k []
 
 abbrev pub isName : List ℕ → ℕ → Bool
 isName s k = eqb (getD (kinds s) k 0) 2

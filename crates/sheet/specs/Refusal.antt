@@ -1,17 +1,18 @@
 -- The refusals 1 to 8: document 01's table, a condition each, and the lowest number that applies over the whole sheet. Assumes nothing.
 use mathlib.Core.Bool.{Bool, true, false, not}
-use mathlib.Core.List.{List, [], _∷_}
+use mathlib.Core.List.{List, [], _∷_, map}
 use Prim.Native.Nat.{ℕ, suc}
 use lib.ListN.{length}
 use lib.Dec.{eqb}
 use Rattle.ctl.specs.Lists.{anyOf}
 use Rattle.syntax.specs.Parse.{Out, good, bad, lineAt}
 use Rattle.layout.specs.Layout.{lengthWrong, byteWrong, layoutRight, texts}
-use Rattle.head.specs.Head.{letters, kinds, declared}
+use Rattle.head.specs.Head.{spellings, kinds, declared}
+use Rattle.spelling.specs.Spelling.{word}
 
 -- the declarations of a sheet
 abbrev pub decls : List ℕ → List ℕ
-decls s = declared (letters s) (kinds s)
+decls s = declared (map word (spellings s)) (kinds s)
 
 -- what a formula's text is, under declarations
 abbrev pub read : List ℕ → List ℕ → Out
@@ -28,10 +29,10 @@ finds k (good p e low) = eqb low k
 
 -- 4, names: line 1. 5, kinds: line 2, or 3 names
 abbrev pub namesWrong : List ℕ → Bool
-namesWrong s = eqb (length (letters s)) 0
+namesWrong s = eqb (length (spellings s)) 0
 
 abbrev pub kindsWrong : List ℕ → Bool
-kindsWrong s = not (eqb (length (kinds s)) (length (letters s)))
+kindsWrong s = not (eqb (length (kinds s)) (length (spellings s)))
 
 -- 6, grammar: a formula does not parse
 unfoldable pub grammarWrong : List ℕ → Bool

@@ -1,7 +1,7 @@
 -- The formulas of a sheet, and the refusals 1 to 8. Assumes nothing: these are definitions.
 use mathlib.Core.Path.{_≡_}
 use mathlib.Core.Bool.{cond}
-use mathlib.Core.List.{List, [], _∷_, _++_}
+use mathlib.Core.List.{List, [], _∷_, _++_, map}
 use Prim.Native.Nat.{ℕ, _+_, _-_, _≤_, _<_, min}
 use lib.ListN.{length, take}
 use lib.Dec.{ltb, eqb}
@@ -9,7 +9,8 @@ use Rattle.syntax.specs.Raw.{Raw, size, nodes, Wrote, At}
 use Rattle.syntax.specs.Parse.{Out, good, bad}
 use Rattle.sheet.specs.Refusal.{decls, read}
 use Rattle.layout.specs.Layout.{texts, goalOf}
-use Rattle.head.specs.Head.{letters, kinds, layoutRefusal}
+use Rattle.head.specs.Head.{spellings, kinds, layoutRefusal}
+use Rattle.spelling.specs.Spelling.{word}
 use Rattle.sheet.specs.declared.One.{One}
 use Rattle.sheet.specs.declared.Formulas.{Formulas}
 use Rattle.sheet.specs.declared.Sheet.{Sheet}
@@ -80,8 +81,8 @@ pub record FormulasRead (decl : List ℕ) (ts : List (List ℕ)) (tab′ : List 
 
 -- a sheet that is not refused
 pub record Right (s tab′ : List ℕ) (r : Sheet) : Type 0 where
-  pub symbols : r .symbols ≡ length (letters s)
-  pub letters-are : take (r .symbols) (r .letters) ≡ letters s
+  pub symbols : r .symbols ≡ length (spellings s)
+  pub words-are : take (r .symbols) (r .words) ≡ map word (spellings s)
   pub kinds-are : take (r .symbols) (r .kinds) ≡ kinds s
   pub lines : r .lines ≡ length (texts s)
   pub stored : Stored (decls s) (texts s) (r .lines) (r .count) (r .ends) tab′

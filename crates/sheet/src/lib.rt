@@ -27,7 +27,7 @@ fn found_refusal(low: u8) -> u8
     9
 }
 
-fn read_one(text: &[u8], decl: &[u8], tab: &mut [u64], n: usize) -> One
+fn read_one(text: &[u8], decl: &[u64], tab: &mut [u64], n: usize) -> One
     requires { ⌜ (n + length (now text) ≤ length (now tab)) × (length (now tab) ≤ 1024) ⌝ }
     ensures { λ r. ⌜ OneRead (now (text .entry)) (now (decl .entry)) n (now (tab .entry)) (now (tab .exit)) r ⌝ }
 {
@@ -53,7 +53,7 @@ pub struct Formulas {
 }
 
 // The formulas on the lines from a line's beginning on, into a table.
-fn read_formulas(s: &[u8], from: usize, decl: &[u8], tab: &mut [u64]) -> Formulas
+fn read_formulas(s: &[u8], from: usize, decl: &[u64], tab: &mut [u64]) -> Formulas
     requires { ⌜ (length (now s) ≤ length (now tab)) × ((length (now tab) ≤ 1024) × (length (textsOf (linesFrom (now s) from)) ≤ 5)) ⌝ }
     ensures { λ r. ⌜ FormulasRead (now (decl .entry)) (textsOf (linesFrom (now (s .entry)) from)) (now (tab .exit)) r ⌝ }
 {
@@ -88,12 +88,12 @@ fn read_formulas(s: &[u8], from: usize, decl: &[u8], tab: &mut [u64]) -> Formula
     }
 }
 
-// A sheet that was read: the lowest of the refusals 1 to 8, 0 for none; the symbols' number, letters and kinds (1 mark, 2 name, 3 field); and the
+// A sheet that was read: the lowest of the refusals 1 to 8, 0 for none; the symbols' number, spellings as words and kinds (1 mark, 2 name, 3 field); and the
 // formulas, globals first, then the goal.
 pub struct Sheet {
     pub refusal: u8,
     pub symbols: usize,
-    pub letters: [u8; 8],
+    pub words: [u64; 8],
     pub kinds: [u8; 8],
     pub lines: usize,
     pub count: usize,
@@ -107,7 +107,7 @@ fn refused(k: u8) -> Sheet
     Sheet {
         refusal: k,
         symbols: 0,
-        letters: [0u8; 8],
+        words: [0u64; 8],
         kinds: [0u8; 8],
         lines: 0,
         count: 0,
@@ -133,7 +133,7 @@ pub fn read_sheet(s: &[u8], tab: &mut [u64]) -> Sheet
         return refused(low);
     }
     let symbols = head.count;
-    let letters = head.letters;
+    let words = head.words;
     let kinds = head.kinds;
     let lines = f.lines;
     let count = f.count;
@@ -141,7 +141,7 @@ pub fn read_sheet(s: &[u8], tab: &mut [u64]) -> Sheet
     Sheet {
         refusal: 0,
         symbols,
-        letters,
+        words,
         kinds,
         lines,
         count,
