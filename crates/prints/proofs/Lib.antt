@@ -1,3 +1,4 @@
 pub mod PieceLaws
+pub mod ModeLaws
 pub mod PrintLaws
 pub mod CompareLaws
