@@ -1,4 +1,4 @@
--- Refusals computed from the bytes of sheets: document 01's drawn ones, and one for each number. Assumes nothing.
+-- Refusals computed from the bytes of sheets: document 01's drawn ones, one for each number, and symbols of several letters. Assumes nothing.
 use mathlib.Core.Path.{_≡_, refl}
 use mathlib.Core.List.{List, [], _∷_, _++_, map}
 use Prim.Native.Nat.{ℕ, zero, suc}
@@ -9,8 +9,9 @@ use Rattle.ctl.specs.Closure.{elemF, dedupe, orSpine, andSpine, exSpine, axSpin
 use Rattle.ctl.specs.Lean.{bytesLt, printLt, symbolLt, isNext, lean}
 use Rattle.layout.specs.Text.{split, ended, same, begins, has}
 use Rattle.layout.specs.Layout.{anyLong, lengthWrong, byteWrong, startsRight, endsRight, layoutRight, textsOf}
-use Rattle.head.specs.Head.{nameRight, namesFrom, namesOf, kindOf, nameCount, kindRight, kindsFrom, kindsOf, declare, declared}
-use Rattle.token.specs.Token.{skip, spaces, signOf, singleOf, pairOf, pairAt, tokenFrom, tokenAt}
+use Rattle.head.specs.Head.{hasText, nameRight, namesFrom, namesOf, kindOf, nameCount, kindRight, kindsFrom, kindsOf, declare, declared}
+use Rattle.spelling.specs.Spelling.{run, spelled, word, entryFrom, entryIn}
+use Rattle.token.specs.Token.{skip, spaces, signOf, pairOf, runFront, plainFront, aloneFront, headFront, frontBy, tokenBy, tokenAt, innerAt}
 use Rattle.operators.specs.Operators.{choiceOf}
 use Rattle.operators.specs.Modes.{markedOf, withMode, modeAt, modesAt, bracesAt}
 use Rattle.syntax.specs.Parse.{letterLow, pathFrom, formulaAt, unitAt, lineAt}
@@ -41,8 +42,14 @@ cases =
     ∷ (ascii "k f\nmark field\nall EX{}k\ngoal EX{\n", 6)
     ∷ (ascii "k f\nmark field\nall EX{}k\ngoal z\n", 7)
     ∷ (ascii "k f\nmark field\ngoal EX{f}k\n", 0)
+    ∷ (ascii "kk k\nmark mark\ngoal k&kk\n", 0)
+    ∷ (ascii "k f\nmark field\ngoal kk\n", 7)
+    ∷ (ascii "thread waits\nmark field\ngoal E{Waits,waits}(threadUthread)\n", 0)
+    ∷ (ascii "threadsss waits\nmark field\ngoal 1\n", 4)
+    ∷ (ascii "k f\nmark field\ngoal kkkkkkkkk\n", 6)
+    ∷ (ascii "k next\nmark field\ngoal EX{neXt}k\n", 6)
     ∷ []
 
 found : map (λ c. refusalOf (c .0)) cases ≡ map (λ c. c .1) cases
-unfolding split ended same begins has anyLong lengthWrong byteWrong startsRight endsRight layoutRight nameRight namesFrom namesOf kindOf nameCount kindRight kindsFrom kindsOf textsOf declare declared skip spaces signOf singleOf pairOf pairAt tokenFrom tokenAt choiceOf markedOf withMode modeAt modesAt bracesAt letterLow pathFrom formulaAt unitAt lineAt trees conditions grammarWrong symbolsWrong bracesWrong refusalWithin modes single signed expand parts elemF dedupe orSpine andSpine exSpine axSpine spine closureOf closureAll closure bytesLt printLt symbolLt isNext lean
+unfolding split ended same begins has anyLong lengthWrong byteWrong startsRight endsRight layoutRight hasText nameRight namesFrom namesOf kindOf nameCount kindRight kindsFrom kindsOf textsOf declare declared run spelled word entryFrom entryIn skip spaces signOf pairOf runFront plainFront aloneFront headFront frontBy tokenBy tokenAt innerAt choiceOf markedOf withMode modeAt modesAt bracesAt letterLow pathFrom formulaAt unitAt lineAt trees conditions grammarWrong symbolsWrong bracesWrong refusalWithin modes single signed expand parts elemF dedupe orSpine andSpine exSpine axSpine spine closureOf closureAll closure bytesLt printLt symbolLt isNext lean
 found = refl

@@ -1,4 +1,5 @@
 pub mod NumberLaws
+pub mod SpellLaws
 pub mod ReadLaws
 pub mod Examples
 pub mod MemberPrints

@@ -1,18 +1,18 @@
 -- From what the reader of sheets, the closing and the lean's finding promise to what the whole reading does. Assumes nothing.
 use mathlib.Core.Path.{_≡_, refl, sym, ap, _∙_, subst}
 use mathlib.Core.Bool.{true}
-use mathlib.Core.List.{List, [], _∷_}
+use mathlib.Core.List.{List, [], _∷_, map}
 use Prim.Native.Nat.{ℕ, zero, suc, _-_, _≤_, _<_}
 use native.Mathlib.Omega.{arith}
-use lib.ListN.{length, getD, take}
+use lib.ListN.{length, getD, take, length-map}
 use lib.Seq.{getD-take, length-take-le}
 use Rattle.ctl.specs.Raw.{Raw}
 use Rattle.ctl.specs.Alphabet.{Alphabet}
 use Rattle.ctl.specs.Lean.{lean}
 use Rattle.syntax.specs.Raw.{At}
 use Rattle.layout.specs.Layout.{layoutRight}
-use Rattle.head.specs.Head.{letters, kinds}
-use Rattle.head.proofs.Letters.{sheet-letters}
+use Rattle.head.specs.Head.{spellings, kinds}
+use Rattle.head.proofs.Spellings.{sheet-spellings}
 use Rattle.sheet.specs.declared.Sheet.{Sheet}
 use Rattle.sheet.specs.Refusal.{readRefusal}
 use Rattle.sheet.specs.Sheet.{SheetRead, Right}
@@ -32,6 +32,8 @@ use Rattle.lean.specs.declared.Gathered.the-variants.{Count, Crowded}
 use Rattle.reader.specs.declared.Reading.{Reading}
 use Rattle.reader.specs.declared.Refusal.the-variants.{Accepted}
 use Rattle.reader.specs.Reader.{numberOf, refusalBy, forms, members, places, refusalWithin, blank, ReadIs, RootsAre}
+use Rattle.spelling.specs.Spelling.{word}
+use Rattle.reader.proofs.SpellLaws.{spell-line}
 use Rattle.reader.proofs.NumberLaws.{number-by, read-eight, within-read, within-nine, within-ten, within-none, within-zero}
 
 -- a refusal by the number k
@@ -71,11 +73,11 @@ module _ {s tab′ : List ℕ} {h : Sheet} (x : SheetRead s tab′ h) where
     lines-five : h .lines ≤ 5
     lines-five = let a = texts-five s none in let b = right .lines in omega arith
 
-    pub letters-line : take (h .symbols) (h .letters) ≡ letters s
-    letters-line = right .letters-are
+    pub words-line : take (h .symbols) (h .words) ≡ map word (spellings s)
+    words-line = right .words-are
 
-    pub symbols-within : h .symbols ≤ length (h .letters)
-    symbols-within = take-within (h .symbols) (h .letters) (ap length letters-line ∙ sym (right .symbols))
+    pub symbols-within : h .symbols ≤ length (h .words)
+    symbols-within = take-within (h .symbols) (h .words) (ap length words-line ∙ length-map (spellings s) word ∙ sym (right .symbols))
 
     module _ {all : List ℕ} (is : RootsAre (h .ends) all) where
       abbrev roots : List ℕ
@@ -105,7 +107,7 @@ module _ {s tab′ : List ℕ} {h : Sheet} (x : SheetRead s tab′ h) where
         roots-in = λ j l. (let some = full .0 in let n = roots-length in let e = root-at j l in let w = end-within s none (right .lines) (right .stored) j (omega arith) in omega arith);
         formulas = formulas s;
         given = given;
-        fits = λ p m. over-fits (length (letters s)) (let f = sheet-letters s .few in omega arith) p (formulas-over s none p m);
+        fits = λ p m. over-fits (length (spellings s)) (let f = sheet-spellings s .few in omega arith) p (formulas-over s none p m);
         small = omega arith;
         room = let n = roots-length in let f = lines-five in omega arith;
       }
@@ -140,21 +142,21 @@ module _ {s tab′ : List ℕ} {h : Sheet} (x : SheetRead s tab′ h) where
 
           -- ---- its lean was found, or is too long
 
-          module _ {wide : ℕ} (fits : m ≤ most) (short : wide ≤ 12) {ls : List ℕ} (line : ls ≡ letters s) where
-            leaning : Leaning (formulas s) (length (letters s)) tab₁ m ls
+          module _ {wide : ℕ} (fits : m ≤ most) (short : wide ≤ 12) {ls : List ℕ} (line : ls ≡ map word (spellings s)) where
+            leaning : Leaning (formulas s) (length (spellings s)) tab₁ m ls
             leaning = record {
               tabled = table-is;
-              letters = subst (λ k. Alphabet (λ i. getD k i 0) (length (letters s))) (sym line) (sheet-alphabet s);
+              spellings = subst (λ k. Alphabet k (length (spellings s))) (sym (spell-line s line)) (sheet-alphabet s);
               over = formulas-over s none;
               short = λ p i. (let k = formula-size s none (right .lines) (right .stored) p i in omega arith);
             }
 
             pub leans : Leans tab₁ m ls
-            leans = record { formulas = formulas s; count = length (letters s); leaning = leaning }
+            leans = record { formulas = formulas s; count = length (spellings s); leaning = leaning }
 
             module _ {l l′ : List ℕ} (room : length l ≡ 12) {g : Gathered} (gathered : LeanAs tab₁ m ls l l′ g) where
               lean-case : LeanIs (places s) (take m tab₁) l l′ g
-              lean-case = subst (λ k. LeanIs (lean (λ i. getD k i 0) (members s)) (take m tab₁) l l′ g) line (gathered (formulas s) (length (letters s)) leaning)
+              lean-case = subst (λ k. LeanIs (lean k (members s)) (take m tab₁) l l′ g) (spell-line s line) (gathered (formulas s) (length (spellings s)) leaning)
 
               pub refused-crowded : {r : Reading} → g ≡ Crowded → r ≡ blank (refusalBy 10) → ReadIs most wide s r
               refused-crowded {r} q b = go (subst (LeanIs (places s) (take m tab₁) l l′) q lean-case)
@@ -173,14 +175,14 @@ module _ {s tab′ : List ℕ} {h : Sheet} (x : SheetRead s tab′ h) where
                 refused-wide k b = let c = width-is .count in refused-is (omega arith) (λ z. omega arith) (within-ten most wide s none (let d = table-is .count in omega arith) (omega arith)) b
 
                 pub accepted-is : w ≤ wide
-                    → ReadIs most wide s (record { refusal = Accepted; symbols = h .symbols; letters = h .letters; kinds = h .kinds; formulas = h .lines; places = places₁; count = m; members = tab₁; width = w; lean = l′ })
+                    → ReadIs most wide s (record { refusal = Accepted; symbols = h .symbols; words = h .words; kinds = h .kinds; formulas = h .lines; places = places₁; count = m; members = tab₁; width = w; lean = l′ })
                 accepted-is k =
                     let zero-is : refusalWithin most wide s ≡ 0 = within-none most wide s none (let d = table-is .count in omega arith) (let c = width-is .count in omega arith) in
                     record {
                       is = sym zero-is;
                       accepted = λ _. record {
                         symbols = right .symbols;
-                        letters-are = right .letters-are;
+                        words-are = right .words-are;
                         kinds-are = right .kinds-are;
                         many = right .lines ∙ sym (formulas-many s none);
                         tabled = table-is;

@@ -8,9 +8,10 @@ use Rattle.ctl.specs.Formula.{Form, tru}
 use Rattle.ctl.specs.Positive.{positive}
 use Rattle.ctl.specs.Closure.{closure}
 use Rattle.ctl.specs.Lean.{lean}
-use Rattle.head.specs.Head.{letters, kinds}
+use Rattle.head.specs.Head.{spellings, kinds}
+use Rattle.spelling.specs.Spelling.{word}
 use Rattle.sheet.specs.Refusal.{conditions, firstOf}
-use Rattle.sheet.specs.Reading.{formulas, letterOf}
+use Rattle.sheet.specs.Reading.{formulas, spellOf}
 use Rattle.members.specs.Members as Members
 use Rattle.closure.specs.Closed.{Tabled, Placed}
 use Rattle.reader.specs.declared.Refusal.{Refusal}
@@ -44,7 +45,7 @@ abbrev pub members : List ℕ → List Form
 members s = closure (forms s)
 
 abbrev pub places : List ℕ → List Form
-places s = lean (letterOf s) (members s)
+places s = lean (spellOf s) (members s)
 
 -- the lowest of the refusals 1 to 10 that applies, over the whole sheet, where the closure may have `most` members and the lean `wide` places: 9, closure: over its limit; 10, lean: over its limit
 unfoldable pub refusalWithin : ℕ → ℕ → List ℕ → ℕ
@@ -58,12 +59,12 @@ refusalOf s = refusalWithin 64 8 s
 
 -- a refusal, and nothing else
 abbrev pub blank : Refusal → Reading
-blank k = record { refusal = k; symbols = 0; letters = replicate 8 0; kinds = replicate 8 0; formulas = 0; places = replicate 5 0; count = 0; members = replicate 128 0; width = 0; lean = replicate 12 0 }
+blank k = record { refusal = k; symbols = 0; words = replicate 8 0; kinds = replicate 8 0; formulas = 0; places = replicate 5 0; count = 0; members = replicate 128 0; width = 0; lean = replicate 12 0 }
 
 -- what a sheet that is accepted says
 pub record Says (s : List ℕ) (r : Reading) : Type 0 where
-  pub symbols : r .symbols ≡ length (letters s)
-  pub letters-are : take (r .symbols) (r .letters) ≡ letters s
+  pub symbols : r .symbols ≡ length (spellings s)
+  pub words-are : take (r .symbols) (r .words) ≡ map word (spellings s)
   pub kinds-are : take (r .symbols) (r .kinds) ≡ kinds s
   pub many : r .formulas ≡ length (formulas s)
   pub tabled : Tabled (forms s) (r .members) (r .count)

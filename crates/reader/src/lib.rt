@@ -40,12 +40,12 @@ fn refusal_by(k: u8) -> Refusal
     }
 }
 
-// What a sheet says: its symbols' letters and kinds (1 mark, 2 name, 3 field); the members of its closure, each a word over those before it; the places among them of
+// What a sheet says: its symbols' spellings as words and kinds (1 mark, 2 name, 3 field); the members of its closure, each a word over those before it; the places among them of
 // its formulas in positive form, globals first, then the goal; and of its lean, in order.
 pub struct Reading {
     pub refusal: Refusal,
     pub symbols: usize,
-    pub letters: [u8; 8],
+    pub words: [u64; 8],
     pub kinds: [u8; 8],
     pub formulas: usize,
     pub places: [usize; 5],
@@ -62,7 +62,7 @@ fn refused(k: u8) -> Reading
     Reading {
         refusal,
         symbols: 0,
-        letters: [0u8; 8],
+        words: [0u64; 8],
         kinds: [0u8; 8],
         formulas: 0,
         places: [0usize; 5],
@@ -116,10 +116,9 @@ fn read_in(s: &[u8], most: usize, wide: usize, nodes: &mut [u64]) -> Reading
         return refused(9);
     }
     let symbols = sheet.symbols;
-    let letters = sheet.letters;
+    let words = sheet.words;
     let mut lean = [0u8; 12];
-    let Gathered::Count(width) = lean::lean_of(&members, count, &letters[..symbols], &mut lean)
-    else {
+    let Gathered::Count(width) = lean::lean_of(&members, count, &words[..symbols], &mut lean) else {
         return refused(10);
     };
     if wide < width {
@@ -130,7 +129,7 @@ fn read_in(s: &[u8], most: usize, wide: usize, nodes: &mut [u64]) -> Reading
     Reading {
         refusal,
         symbols,
-        letters,
+        words,
         kinds,
         formulas: n,
         places,

@@ -1,5 +1,5 @@
 -- `read_in` meets its contract, a return for each refusal, and one for a sheet that has none. Assumes nothing.
-use Rattle.reader.proofs.ReadLaws.{refused-read, lines-within, closes, refused-beyond, refused-many, still-few, symbols-within, letters-line, leans, refused-crowded, refused-wide, accepted-is}
+use Rattle.reader.proofs.ReadLaws.{refused-read, lines-within, closes, refused-beyond, refused-many, still-few, symbols-within, words-line, leans, refused-crowded, refused-wide, accepted-is}
 use mathlib.Core.Path.{refl, sym}
 use lib.Seq.{length-take-le}
 use borrow.Author.Needs.{needs}
@@ -96,8 +96,8 @@ returns-3 c =
 slice-aggregate-lean-of : tie.Need-slice-aggregate-lean-of
 slice-aggregate-lean-of c = search needs
 
-array-share-prefix-letters : tie.Need-array-share-prefix-letters
-array-share-prefix-letters c =
+array-share-prefix-words : tie.Need-array-share-prefix-words
+array-share-prefix-words c =
     let b15 = c .before .before .before .before .before .before .before .before .before .before .before .before .before .before .before in
     let b18 = b15 .before .before .before in
     let b22 = b18 .before .before .before .before in
@@ -122,7 +122,7 @@ lean-of-requires c κs =
     let b17 = b15 .before .before in
     let b20 = b17 .before .before .before in
     let b24 = b20 .before .before .before .before in
-    leans (b20 .read-sheet .ensures) (b17 .if1 .left) (still-few (b20 .read-sheet .kept .1 .0) (b24 .pre .1 .0)) (b15 .roots-of .ensures) (b24 .pre .0 .0) refl (b10 .close .ensures) (b6 .count .given .1) (b4 .if2 .left) (b24 .pre .0 .1) (letters-line (b20 .read-sheet .ensures) (b17 .if1 .left) (still-few (b20 .read-sheet .kept .1 .0) (b24 .pre .1 .0)))
+    leans (b20 .read-sheet .ensures) (b17 .if1 .left) (still-few (b20 .read-sheet .kept .1 .0) (b24 .pre .1 .0)) (b15 .roots-of .ensures) (b24 .pre .0 .0) refl (b10 .close .ensures) (b6 .count .given .1) (b4 .if2 .left) (b24 .pre .0 .1) (words-line (b20 .read-sheet .ensures) (b17 .if1 .left) (still-few (b20 .read-sheet .kept .1 .0) (b24 .pre .1 .0)))
 
 enum-known-width : tie.Need-enum-known-width
 enum-known-width c = search needs
@@ -149,7 +149,7 @@ returns-4 c =
     let b22 = b20 .before .before in
     let b25 = b22 .before .before .before in
     let b29 = b25 .before .before .before .before in
-    refused-crowded (b25 .read-sheet .ensures) (b22 .if1 .left) (still-few (b25 .read-sheet .kept .1 .0) (b29 .pre .1 .0)) (b20 .roots-of .ensures) (b29 .pre .0 .0) refl (b15 .close .ensures) (b11 .count .given .1) (b9 .if2 .left) (b29 .pre .0 .1) (letters-line (b25 .read-sheet .ensures) (b22 .if1 .left) (still-few (b25 .read-sheet .kept .1 .0) (b29 .pre .1 .0))) refl (b4 .lean-of .ensures) (b1 .enum-told2 .given .1) (c .refused4 .ensures)
+    refused-crowded (b25 .read-sheet .ensures) (b22 .if1 .left) (still-few (b25 .read-sheet .kept .1 .0) (b29 .pre .1 .0)) (b20 .roots-of .ensures) (b29 .pre .0 .0) refl (b15 .close .ensures) (b11 .count .given .1) (b9 .if2 .left) (b29 .pre .0 .1) (words-line (b25 .read-sheet .ensures) (b22 .if1 .left) (still-few (b25 .read-sheet .kept .1 .0) (b29 .pre .1 .0))) refl (b4 .lean-of .ensures) (b1 .enum-told2 .given .1) (c .refused4 .ensures)
 
 refused-requires-5 : tie.Need-refused-requires-5
 refused-requires-5 c κs = search needs
@@ -171,7 +171,7 @@ returns-5 c =
     let b24 = b22 .before .before in
     let b27 = b24 .before .before .before in
     let b31 = b27 .before .before .before .before in
-    refused-wide (b27 .read-sheet .ensures) (b24 .if1 .left) (still-few (b27 .read-sheet .kept .1 .0) (b31 .pre .1 .0)) (b22 .roots-of .ensures) (b31 .pre .0 .0) refl (b17 .close .ensures) (b13 .count .given .1) (b11 .if2 .left) (b31 .pre .0 .1) (letters-line (b27 .read-sheet .ensures) (b24 .if1 .left) (still-few (b27 .read-sheet .kept .1 .0) (b31 .pre .1 .0))) refl (b6 .lean-of .ensures) (b3 .width .given .1) (b1 .if3 .taken) (c .refused5 .ensures)
+    refused-wide (b27 .read-sheet .ensures) (b24 .if1 .left) (still-few (b27 .read-sheet .kept .1 .0) (b31 .pre .1 .0)) (b22 .roots-of .ensures) (b31 .pre .0 .0) refl (b17 .close .ensures) (b13 .count .given .1) (b11 .if2 .left) (b31 .pre .0 .1) (words-line (b27 .read-sheet .ensures) (b24 .if1 .left) (still-few (b27 .read-sheet .kept .1 .0) (b31 .pre .1 .0))) refl (b6 .lean-of .ensures) (b3 .width .given .1) (b1 .if3 .taken) (c .refused5 .ensures)
 
 same-length-6 : tie.Need-same-length-6
 same-length-6 c = search needs
@@ -188,7 +188,7 @@ returns-6 c =
     let b24 = b22 .before .before in
     let b27 = b24 .before .before .before in
     let b31 = b27 .before .before .before .before in
-    accepted-is (b27 .read-sheet .ensures) (b24 .if1 .left) (still-few (b27 .read-sheet .kept .1 .0) (b31 .pre .1 .0)) (b22 .roots-of .ensures) (b31 .pre .0 .0) refl (b17 .close .ensures) (b13 .count .given .1) (b11 .if2 .left) (b31 .pre .0 .1) (letters-line (b27 .read-sheet .ensures) (b24 .if1 .left) (still-few (b27 .read-sheet .kept .1 .0) (b31 .pre .1 .0))) refl (b6 .lean-of .ensures) (b3 .width .given .1) (b1 .if3 .left)
+    accepted-is (b27 .read-sheet .ensures) (b24 .if1 .left) (still-few (b27 .read-sheet .kept .1 .0) (b31 .pre .1 .0)) (b22 .roots-of .ensures) (b31 .pre .0 .0) refl (b17 .close .ensures) (b13 .count .given .1) (b11 .if2 .left) (b31 .pre .0 .1) (words-line (b27 .read-sheet .ensures) (b24 .if1 .left) (still-few (b27 .read-sheet .kept .1 .0) (b31 .pre .1 .0))) refl (b6 .lean-of .ensures) (b3 .width .given .1) (b1 .if3 .left)
 
 pub read-in-spec : {M : Type 1} → statement M
 read-in-spec =
@@ -213,7 +213,7 @@ read-in-spec =
     same-length-3
     returns-3
     slice-aggregate-lean-of
-    array-share-prefix-letters
+    array-share-prefix-words
     slice-aggregate-lean-of-2
     slice-aggregate-lean-of-3
     lean-of-requires
