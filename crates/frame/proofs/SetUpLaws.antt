@@ -43,8 +43,8 @@ module _ {s : List ℕ} {r : Reading} (x : ReadIs 64 8 s r) {k : ℕ} (e : k ≡
     pub width-within : r .width ≤ length (r .lean)
     width-within = take-within (r .width) (r .lean) width-is
 
-    pub symbols-within : length (r .letters) ≡ 8 → length (r .kinds) ≡ 8 → r .symbols ≤ length (r .kinds)
-    symbols-within a b = let h = take-within (r .symbols) (r .letters) (ap length (says .letters-are) ∙ sym (says .symbols)) in omega arith
+    pub symbols-within : length (r .words) ≡ 8 → length (r .kinds) ≡ 8 → r .symbols ≤ length (r .kinds)
+    symbols-within a b = let h = take-within (r .symbols) (r .words) (ap length (says .words-are) ∙ length-map _ _ ∙ sym (says .symbols)) in omega arith
 
     pub formulas-five : r .formulas ≤ 5
     formulas-five = let a = texts-five s right in let b = formulas-many s right in let c = says .many in omega arith

@@ -22,8 +22,9 @@ use Rattle.snapshot.specs.Read.{fits, judged, lineFits, readSnapshot, twice}
 use Rattle.snapshot_text.specs.Store.{entryAt, ofStore}
 use Rattle.layout.specs.Text.{begins, ended, has, same, split}
 use Rattle.layout.specs.Layout.{anyLong, byteWrong, endsRight, layoutRight, lengthWrong, startsRight, textsOf}
-use Rattle.head.specs.Head.{declare, declared, kindOf, kindRight, kindsFrom, kindsOf, nameCount, nameRight, namesFrom, namesOf}
-use Rattle.token.specs.Token.{pairAt, pairOf, signOf, singleOf, skip, spaces, tokenAt, tokenFrom}
+use Rattle.head.specs.Head.{declare, declared, kindOf, kindRight, kindsFrom, kindsOf, nameCount, hasText, nameRight, namesFrom, namesOf}
+use Rattle.spelling.specs.Spelling.{run as letterRun, spelled, word, entryFrom, entryIn}
+use Rattle.token.specs.Token.{pairOf, signOf, runFront, plainFront, aloneFront, headFront, frontBy, tokenBy, skip, spaces, tokenAt, innerAt}
 use Rattle.operators.specs.Operators.{choiceOf}
 use Rattle.operators.specs.Modes.{bracesAt, markedOf, modeAt, modesAt, withMode}
 use Rattle.syntax.specs.Parse.{formulaAt, letterLow, lineAt, pathFrom, unitAt}
@@ -81,7 +82,7 @@ abbrev rowLeft : List ℕ → List ℕ → ℕ → List ℕ
 rowLeft s t n = snapshotRow s t (snapshotRefusal s t n) (replicate n 0)
 
 computed : Graph → Graph
-unfolding andSpine axSpine closure closureAll closureOf dedupe elemF exSpine orSpine spine sheetTableau expand parts bytesLt isNext lean printLt symbolLt modes single signed namings startTypes roundsOf survivingTypes verdict begins ended has same split anyLong byteWrong declare declared endsRight kindOf kindRight kindsFrom kindsOf layoutRight lengthWrong nameCount nameRight namesFrom namesOf startsRight textsOf pairAt pairOf signOf singleOf skip spaces tokenAt tokenFrom choiceOf bracesAt markedOf modeAt modesAt withMode formulaAt letterLow lineAt pathFrom unitAt trees globalsOf goalOf bracesWrong conditions grammarWrong symbolsWrong refusalWithin tableRefusal verdictIn verdictOf wordsIn step leads row rounds tableEU tableAU sat rowOf ofStore entryAt byteStep run starts lineCount lineStore lineFits fits twice judged readSnapshot snapshotRefusal allBelow anyBelow countBelow
+unfolding andSpine axSpine closure closureAll closureOf dedupe elemF exSpine orSpine spine sheetTableau expand parts bytesLt isNext lean printLt symbolLt modes single signed namings startTypes roundsOf survivingTypes verdict begins ended has same split anyLong byteWrong declare declared endsRight kindOf kindRight kindsFrom kindsOf layoutRight lengthWrong nameCount hasText nameRight namesFrom namesOf startsRight textsOf letterRun spelled word entryFrom entryIn pairOf signOf runFront plainFront aloneFront headFront frontBy tokenBy skip spaces tokenAt innerAt choiceOf bracesAt markedOf modeAt modesAt withMode formulaAt letterLow lineAt pathFrom unitAt trees globalsOf goalOf bracesWrong conditions grammarWrong symbolsWrong refusalWithin tableRefusal verdictIn verdictOf wordsIn step leads row rounds tableEU tableAU sat rowOf ofStore entryAt byteStep run starts lineCount lineStore lineFits fits twice judged readSnapshot snapshotRefusal allBelow anyBelow countBelow
 computed g = record {
   sheet = g .sheet;
   verdict = map (λ v. verdictOf (g .sheet)) (g .verdict);

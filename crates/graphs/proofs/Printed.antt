@@ -13,8 +13,9 @@ use Rattle.ctl.specs.Tableau.{namings, startTypes}
 use Rattle.ctl.specs.Verdict.{roundsOf, survivingTypes, verdict}
 use Rattle.layout.specs.Text.{begins, ended, has, same, split}
 use Rattle.layout.specs.Layout.{anyLong, byteWrong, endsRight, layoutRight, lengthWrong, startsRight, textsOf}
-use Rattle.head.specs.Head.{declare, declared, kindOf, kindRight, kindsFrom, kindsOf, nameCount, nameRight, namesFrom, namesOf}
-use Rattle.token.specs.Token.{pairAt, pairOf, signOf, singleOf, skip, spaces, tokenAt, tokenFrom}
+use Rattle.head.specs.Head.{declare, declared, kindOf, kindRight, kindsFrom, kindsOf, nameCount, hasText, nameRight, namesFrom, namesOf}
+use Rattle.spelling.specs.Spelling.{run as letterRun, spelled, word, entryFrom, entryIn}
+use Rattle.token.specs.Token.{pairOf, signOf, runFront, plainFront, aloneFront, headFront, frontBy, tokenBy, skip, spaces, tokenAt, innerAt}
 use Rattle.operators.specs.Operators.{choiceOf}
 use Rattle.operators.specs.Modes.{bracesAt, markedOf, modeAt, modesAt, withMode}
 use Rattle.syntax.specs.Parse.{formulaAt, letterLow, lineAt, pathFrom, unitAt}
@@ -43,7 +44,7 @@ cases =
     ∷ []
 
 computed : Case → Case
-unfolding andSpine axSpine closure closureAll closureOf dedupe elemF exSpine orSpine spine sheetTableau expand parts bytesLt isNext lean printLt symbolLt modes single signed namings startTypes roundsOf survivingTypes verdict begins ended has same split anyLong byteWrong endsRight layoutRight lengthWrong startsRight textsOf declare declared kindOf kindRight kindsFrom kindsOf nameCount nameRight namesFrom namesOf pairAt pairOf signOf singleOf skip spaces tokenAt tokenFrom choiceOf bracesAt markedOf modeAt modesAt withMode formulaAt letterLow lineAt pathFrom unitAt trees globalsOf goalOf bracesWrong conditions grammarWrong symbolsWrong refusalWithin decimal digits headingLine namingLine refusedLine spaced verdictHeading verdictLine verdictIn linesOf namingOf textOf
+unfolding andSpine axSpine closure closureAll closureOf dedupe elemF exSpine orSpine spine sheetTableau expand parts bytesLt isNext lean printLt symbolLt modes single signed namings startTypes roundsOf survivingTypes verdict begins ended has same split anyLong byteWrong endsRight layoutRight lengthWrong startsRight textsOf declare declared kindOf kindRight kindsFrom kindsOf nameCount hasText nameRight namesFrom namesOf letterRun spelled word entryFrom entryIn pairOf signOf runFront plainFront aloneFront headFront frontBy tokenBy skip spaces tokenAt innerAt choiceOf bracesAt markedOf modeAt modesAt withMode formulaAt letterLow lineAt pathFrom unitAt trees globalsOf goalOf bracesWrong conditions grammarWrong symbolsWrong refusalWithin decimal digits headingLine namingLine refusedLine spaced verdictHeading verdictLine verdictIn linesOf namingOf textOf
 computed c = record { sheet = c .sheet; text = textOf (c .sheet) (ascii "\n") }
 
 as-printed : map computed cases ≡ cases

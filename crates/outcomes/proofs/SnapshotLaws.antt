@@ -16,7 +16,7 @@ use Rattle.ctl.specs.Snapshot.{NamesSingle, ofLines}
 use Rattle.evaluator.proofs.RowMeaning.{globals-bit, goal-bit, row-length}
 use Rattle.evaluator.specs.Rows.{rowOf}
 use Rattle.head.proofs.HeadLaws.{line-first}
-use Rattle.head.proofs.Letters.{sheet-letters}
+use Rattle.head.proofs.Spellings.{sheet-spellings}
 use Rattle.layout.specs.Layout.{lineOf}
 use Rattle.head.specs.Head.{kinds}
 use Rattle.layout.specs.Text.{endOf}
@@ -53,7 +53,7 @@ module _ (s : List ℕ) (z : refusalOf s ≡ 0) where
   some-kinds = let r = within-zero 64 8 s z in let a = right-kinds s r in let b = some-symbols s r in omega arith
 
   pub few-kinds : length (kinds s) ≤ 8
-  few-kinds = let r = within-zero 64 8 s z in let a = right-kinds s r in let b = sheet-letters s .few in omega arith
+  few-kinds = let r = within-zero 64 8 s z in let a = right-kinds s r in let b = sheet-spellings s .few in omega arith
 
   pub reads-as : (t : List ℕ) → Answered (lineOf s 0) (kinds s) t (entriesIn s t) (snapshotRead s t)
   reads-as t = answered (lineOf s 0) (kinds s) t some-kinds few-kinds

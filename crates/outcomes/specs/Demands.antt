@@ -21,7 +21,7 @@ use Rattle.layout.specs.Layout.{lineOf}
 use Rattle.head.specs.Head.{kinds}
 use Rattle.snapshot.specs.Answered.{Answered}
 use Rattle.snapshot_text.specs.Text.{Text}
-use Rattle.sheet.specs.Reading.{formulas, globalsOf, goalOf, isName, letterOf}
+use Rattle.sheet.specs.Reading.{formulas, globalsOf, goalOf, isName, spellOf}
 use Rattle.reader.specs.Reader.{refusalOf}
 use Rattle.prepare.specs.Prepared.{tableauIn}
 use Rattle.outcomes.specs.declared.SnapshotAnswer.{SnapshotAnswer}
@@ -62,7 +62,7 @@ pub record SnapshotMeans (s t : List ℕ) (o : SnapshotAnswer) (row′ : List �
 
 -- the single claim about the whole elimination, with a verdict of the logic
 abbrev pub WholeClaim : List ℕ → Ctl.Verdict → Type 0
-WholeClaim s v = Whole.Demand3 (letterOf s) (isName s) (globalsOf (formulas s)) (goalOf (formulas s)) v
+WholeClaim s v = Whole.Demand3 (spellOf s) (isName s) (globalsOf (formulas s)) (goalOf (formulas s)) v
 
 -- a snapshot that the demand speaks of: each name is on at most one node, and every global holds at every node
 abbrev pub Speaks : List ℕ → Snapshot → Type 0

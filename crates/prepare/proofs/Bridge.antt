@@ -21,7 +21,7 @@ use Rattle.ctl.specs.Demand3.{sheetTableau}
 use Rattle.ctl.proofs.BoolLaws.{and-make, or-1, T-true}
 use Rattle.ctl.proofs.LeanOrder.{lean-members}
 use Rattle.sheet.specs.Refusal.{readRefusal}
-use Rattle.sheet.specs.Reading.{formulas, globalsOf, goalOf, letterOf}
+use Rattle.sheet.specs.Reading.{formulas, globalsOf, goalOf, spellOf}
 use Rattle.sheet.proofs.SizeLaws.{formulas-many, texts-some}
 use Rattle.members.specs.Members.{Canon, Members, c-and, c-ar, c-au, c-ax, c-er, c-eu, c-ex, c-fls, c-lit, c-nlit, c-or, c-tru, forms, leftW, tagW, wordOf}
 use Rattle.members.proofs.MemberLaws.{canon-parts, forms-length, member, word-left, word-tag}
@@ -125,9 +125,9 @@ module _ (s : List ℕ) (z : readRefusal s ≡ 0) where
 -- ---- the lean
 
 -- the formula 1 is no place of a lean
-lean-not-tru : (letter : ℕ → ℕ) (cl : List Form) → tru ∈ lean letter cl → ⊥
+lean-not-tru : (spell : ℕ → List ℕ) (cl : List Form) → tru ∈ lean spell cl → ⊥
 unfolding isNext
-lean-not-tru letter cl m = lean-members letter cl tru .0 m .1
+lean-not-tru spell cl m = lean-members spell cl tru .0 m .1
 
 ex-next : (p : Form) → tag p ≡ 6 → single (num p) ≡ true → T (isNext p)
 unfolding isNext
@@ -174,7 +174,7 @@ module _ (s : List ℕ) (r : Reading) (x : Says s r) where
           let e = List·getD-eq-default (forms ms) tru {n = getD ln k 0} (let n = forms-length ms in omega arith) in
           let w = lean-length in
           let v = x .lean-many in
-          lean-not-tru (letterOf s) (R.members s) (subst (λ p. p ∈ R.places s) (sym (lean-form k h) ∙ e) (form-in (R.places s) k (omega arith)))
+          lean-not-tru (spellOf s) (R.members s) (subst (λ p. p ∈ R.places s) (sym (lean-form k h) ∙ e) (form-in (R.places s) k (omega arith)))
 
   pub leans : r .width ≤ 60 → Leans ms ln
   leans h = record { short = (let n = lean-length in omega arith); inside = lean-inside }
@@ -186,7 +186,7 @@ module _ (s : List ℕ) (r : Reading) (x : Says s r) where
       let w = member-word (x .tabled .members) i h in
       let n = ex-next (form ms i) (w .0 ∙ g) (ap single (w .1) ∙ a) in
       let c : form ms i ∈ R.members s = x .tabled .only (form ms i) (form-in (forms ms) i (let e = forms-length ms in omega arith)) in
-      let p = form-place (R.places s) (lean-members (letterOf s) (R.members s) (form ms i) .1 (c, or-1 (isLetter (form ms i)) (isNext (form ms i)) n)) in
+      let p = form-place (R.places s) (lean-members (spellOf s) (R.members s) (form ms i) .1 (c, or-1 (isLetter (form ms i)) (isNext (form ms i)) n)) in
       let k : p .0 < length ln = (let b = p .1 in let e = lean-length in let v = x .lean-many in omega arith) in
       (p .0, k, table .distinct (getD ln (p .0) 0) i (lean-inside (p .0) k) h (lean-form (p .0) k ∙ p .2))
 
@@ -199,7 +199,7 @@ module _ (s : List ℕ) (r : Reading) (x : Says s r) where
 
     pub tableau-lean : S .ln ≡ R.places s
     unfolding sheetTableau tableauOf
-    tableau-lean = ap (λ l. lean (letterOf s) (closure l)) (forms-split s z)
+    tableau-lean = ap (λ l. lean (spellOf s) (closure l)) (forms-split s z)
 
     tableau-globals : S .globals ≡ map positive (globalsOf (formulas s))
     unfolding sheetTableau tableauOf

@@ -22,7 +22,7 @@ use Rattle.ctl.proofs.ListLaws.{below-in, below-out, keep-in, keep-length, keep
 use Rattle.ctl.proofs.SortLaws.{keep-unique}
 use Rattle.closure.proofs.CloseLaws.{unique-length}
 use Rattle.head.specs.Head.{kindOf, kindRight, kinds, kindsFrom, kindsOf, nameCount}
-use Rattle.sheet.specs.Reading.{formulas, globalsOf, goalOf, letterOf}
+use Rattle.sheet.specs.Reading.{formulas, globalsOf, goalOf, spellOf}
 use Rattle.prepare.specs.Prepared.{tableauIn}
 
 -- ---- at most two kinds are names
@@ -125,7 +125,7 @@ module _ (s : List ℕ) where
   unfolding sheetTableau tableauOf
   lean-once =
       let l = map positive (globalsOf (formulas s)) ++ (positive (goalOf (formulas s)) ∷ []) in
-      lean-unique (letterOf s) (closure l) (closure-unique l)
+      lean-unique (spellOf s) (closure l) (closure-unique l)
 
   pub names-two : length (namePlaces S) ≤ 2
   unfolding namePlaces

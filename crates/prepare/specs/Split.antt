@@ -9,7 +9,7 @@ use Rattle.ctl.specs.Lists.{keep, below}
 use Rattle.members.specs.Members.{argW, tagW}
 use Rattle.prepare.specs.declared.Split.{Split}
 
--- a member's word is a letter, and that symbol's kind is name (kinds: 1 mark, 2 name, 3 field)
+-- a member's word is a symbol, and that symbol's kind is name (kinds: 1 mark, 2 name, 3 field)
 unfoldable pub nameWord : List ℕ → ℕ → Bool
 nameWord kinds x = eqb (tagW x) 2 && eqb (getD kinds (argW x) 0) 2
 

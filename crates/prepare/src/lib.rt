@@ -6,7 +6,7 @@ ghost use lib.ListN.{length, set};
 ghost use Rattle.prepare.specs.Split.{nameWord, Splits, SplitIs};
 ghost use Rattle.prepare.specs.Width.{WordsFor};
 
-// Whether a member's word is a letter of a symbol that is a name.
+// Whether a member's word is a symbol that is a name.
 fn is_name(x: u64, kinds: &[u8]) -> bool
     ensures { λ r. ⌜ r ≡ nameWord (now (kinds .entry)) x ⌝ }
 {

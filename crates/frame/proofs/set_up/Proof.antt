@@ -1,5 +1,5 @@
 -- `set_up` meets its contract: a refusal, or the frame of what was read. Assumes nothing.
-use denote.Struct.Field.{u8-field, usize-field}
+use denote.Struct.Field.{u64-field, u8-field, usize-field}
 use mathlib.Core.Path.{refl, sym}
 use lib.Seq.{length-take-le}
 use borrow.Author.Needs.{length-unmapped, needs}
@@ -56,14 +56,14 @@ array-share-prefix-kinds c =
     let b6 = c .before .before .before .before .before .before in
     let b7 = b6 .before in
     let b8 = b7 .before in
-    symbols-within (b8 .read .ensures) (b7 .number .ensures) (b6 .if1 .left) (length-unmapped (u8-field .Value) (b8 .read .result .letters) 8 (b8 .read .ok .1 .1 .1 .1 .0 .1 .0 .1)) (length-unmapped (u8-field .Value) (b8 .read .result .kinds) 8 (b8 .read .ok .1 .1 .1 .1 .1 .0 .1 .0 .1))
+    symbols-within (b8 .read .ensures) (b7 .number .ensures) (b6 .if1 .left) (length-unmapped (u64-field .Value) (b8 .read .result .words) 8 (b8 .read .ok .1 .1 .1 .1 .0 .1 .0 .1)) (length-unmapped (u8-field .Value) (b8 .read .result .kinds) 8 (b8 .read .ok .1 .1 .1 .1 .1 .0 .1 .0 .1))
 
 slice-aggregate-frame-of-3 : tie.Need-slice-aggregate-frame-of-3
 slice-aggregate-frame-of-3 c =
     let b7 = c .before .before .before .before .before .before .before in
     let b8 = b7 .before in
     let b9 = b8 .before in
-    sym (length-take-le _ _ (symbols-within (b9 .read .ensures) (b8 .number .ensures) (b7 .if1 .left) (length-unmapped (u8-field .Value) (b9 .read .result .letters) 8 (b9 .read .ok .1 .1 .1 .1 .0 .1 .0 .1)) (length-unmapped (u8-field .Value) (b9 .read .result .kinds) 8 (b9 .read .ok .1 .1 .1 .1 .1 .0 .1 .0 .1))))
+    sym (length-take-le _ _ (symbols-within (b9 .read .ensures) (b8 .number .ensures) (b7 .if1 .left) (length-unmapped (u64-field .Value) (b9 .read .result .words) 8 (b9 .read .ok .1 .1 .1 .1 .0 .1 .0 .1)) (length-unmapped (u8-field .Value) (b9 .read .result .kinds) 8 (b9 .read .ok .1 .1 .1 .1 .1 .0 .1 .0 .1))))
 
 array-share-prefix-places : tie.Need-array-share-prefix-places
 array-share-prefix-places c =

@@ -36,14 +36,14 @@ array-share-prefix-kinds c =
     let b3 = c .before .before .before in
     let b4 = b3 .before in
     let b5 = b4 .before in
-    symbols-within (b5 .read .ensures) (b4 .number .ensures) (b3 .if1 .left) (length-unmapped (u8-field .Value) (b5 .read .result .letters) 8 (b5 .read .ok .1 .1 .1 .1 .0 .1 .0 .1)) (length-unmapped (u8-field .Value) (b5 .read .result .kinds) 8 (b5 .read .ok .1 .1 .1 .1 .1 .0 .1 .0 .1))
+    symbols-within (b5 .read .ensures) (b4 .number .ensures) (b3 .if1 .left) (length-unmapped (u64-field .Value) (b5 .read .result .words) 8 (b5 .read .ok .1 .1 .1 .1 .0 .1 .0 .1)) (length-unmapped (u8-field .Value) (b5 .read .result .kinds) 8 (b5 .read .ok .1 .1 .1 .1 .1 .0 .1 .0 .1))
 
 slice-aggregate-read-2 : tie.Need-slice-aggregate-read-2
 slice-aggregate-read-2 c =
     let b4 = c .before .before .before .before in
     let b5 = b4 .before in
     let b6 = b5 .before in
-    sym (length-take-le _ _ (symbols-within (b6 .read .ensures) (b5 .number .ensures) (b4 .if1 .left) (length-unmapped (u8-field .Value) (b6 .read .result .letters) 8 (b6 .read .ok .1 .1 .1 .1 .0 .1 .0 .1)) (length-unmapped (u8-field .Value) (b6 .read .result .kinds) 8 (b6 .read .ok .1 .1 .1 .1 .1 .0 .1 .0 .1))))
+    sym (length-take-le _ _ (symbols-within (b6 .read .ensures) (b5 .number .ensures) (b4 .if1 .left) (length-unmapped (u64-field .Value) (b6 .read .result .words) 8 (b6 .read .ok .1 .1 .1 .1 .0 .1 .0 .1)) (length-unmapped (u8-field .Value) (b6 .read .result .kinds) 8 (b6 .read .ok .1 .1 .1 .1 .1 .0 .1 .0 .1))))
 
 slice-aggregate-read-3 : tie.Need-slice-aggregate-read-3
 slice-aggregate-read-3 c = search needs
