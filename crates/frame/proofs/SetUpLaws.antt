@@ -13,7 +13,7 @@ use Rattle.sheet.proofs.SizeLaws.{formulas-many, texts-five}
 use Rattle.reader.specs.declared.Reading.{Reading}
 use Rattle.reader.specs.Reader.{ReadIs, Says, members, numberOf, places, refusalOf}
 use Rattle.reader.proofs.NumberLaws.{within-nine, within-ten, within-zero}
-use Rattle.reader.proofs.ReadLaws.{take-within}
+use Rattle.reader.proofs.ReadLaws.{words-within, take-within}
 use Rattle.prepare.specs.Prepared.{kindsOf, leanOf, tableOf}
 use Rattle.frame.specs.Framed.{FramedAs, Frames, Given}
 use Rattle.frame.specs.SetUp.{SetUp, nothingBy}
@@ -44,7 +44,7 @@ module _ {s : List ℕ} {r : Reading} (x : ReadIs 64 8 s r) {k : ℕ} (e : k ≡
     width-within = take-within (r .width) (r .lean) width-is
 
     pub symbols-within : length (r .words) ≡ 8 → length (r .kinds) ≡ 8 → r .symbols ≤ length (r .kinds)
-    symbols-within a b = let h = take-within (r .symbols) (r .words) (ap length (says .words-are) ∙ length-map _ _ ∙ sym (says .symbols)) in omega arith
+    symbols-within a b = let h = words-within says in omega arith
 
     pub formulas-five : r .formulas ≤ 5
     formulas-five = let a = texts-five s right in let b = formulas-many s right in let c = says .many in omega arith

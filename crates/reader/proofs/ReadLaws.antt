@@ -31,7 +31,7 @@ use Rattle.lean.specs.declared.Gathered.{Gathered}
 use Rattle.lean.specs.declared.Gathered.the-variants.{Count, Crowded}
 use Rattle.reader.specs.declared.Reading.{Reading}
 use Rattle.reader.specs.declared.Refusal.the-variants.{Accepted}
-use Rattle.reader.specs.Reader.{numberOf, refusalBy, forms, members, places, refusalWithin, blank, ReadIs, RootsAre}
+use Rattle.reader.specs.Reader.{numberOf, refusalBy, forms, members, places, refusalWithin, blank, Says, ReadIs, RootsAre}
 use Rattle.spelling.specs.Spelling.{word}
 use Rattle.reader.proofs.SpellLaws.{spell-line}
 use Rattle.reader.proofs.NumberLaws.{number-by, read-eight, within-read, within-nine, within-ten, within-none, within-zero}
@@ -48,6 +48,10 @@ pub take-within : (n : ℕ) (xs : List ℕ) → length (take n xs) ≡ n → n �
 take-within zero xs e = omega arith
 take-within (suc n) [] e = absurd (omega arith)
 take-within (suc n) (x ∷ xs) e = let h = take-within n xs (omega arith) in omega arith
+
+-- there are as many words as symbols
+pub words-within : {s : List ℕ} {r : Reading} → Says s r → r .symbols ≤ length (r .words)
+words-within {s} {r} x = take-within (r .symbols) (r .words) (ap length (x .words-are) ∙ length-map (spellings s) word ∙ sym (x .symbols))
 
 pub still-few : {m n : ℕ} → m ≡ n → (0 < n) × (n ≤ 1024) → (0 < m) × (m ≤ 1024)
 still-few e h = let a = h .0 in let b = h .1 in (omega arith, omega arith)
