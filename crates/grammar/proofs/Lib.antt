@@ -8,3 +8,4 @@ pub mod TreeComplete
 pub mod GrammarLaws
 pub mod CanonicalLaws
 pub mod RoundTrip
+pub mod FormerLaws

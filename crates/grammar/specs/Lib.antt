@@ -1,2 +1,3 @@
 pub mod Grammar
 pub mod Canonical
+pub mod Former
