@@ -2,7 +2,7 @@
 use mathlib.Core.Path.{_≡_, refl, sym, ap, ap₂, _∙_}
 use mathlib.Core.Bool.{Bool, true, false, cond, _&&_, and-false, false≢true}
 use mathlib.Core.List.{List, [], _∷_, _++_, append-assoc, append-nil}
-use Prim.Native.Nat.{ℕ, suc, _+_, _≤_}
+use Prim.Native.Nat.{ℕ, suc, _+_, _≤_, _<_}
 use native.Mathlib.Omega.{arith}
 use lib.ListN.{drop}
 use lib.Dec.{eqb, leb}
@@ -49,7 +49,7 @@ abbrev pub Tidy : Bool → List Tok → Type 0
 Tidy i [] = Unit {0}
 Tidy i (k ∷ r) = Fits i k (first r) × Tidy (within i k) r
 
--- ---- what the grammar derives is tidy, before any tidy tokens that begin with no letter
+-- ---- what the grammar derives is tidy
 differ : _≡_ {A = ℕ} 0 1 → ⊥
 differ e = omega arith
 
@@ -65,6 +65,7 @@ commas-tidy (m ∷ (n ∷ A)) r h = mode-tidy m (Comma ∷ (commas (n ∷ A) ++ 
 braces-tidy : (A : List Mode) (ts r : List Tok) → ts ≡ commas A ++ CloseBrace ∷ r → Tidy false r → Tidy true ts
 braces-tidy A ts r e h = rw e (commas-tidy A r h)
 
+-- tokens outside braces: what follows them may be any that begin with no letter
 abbrev Before : List Tok → Type 0
 Before ts = (r : List Tok) → NoLetter (first r) → Tidy false r → Tidy false (ts ++ r)
 
@@ -98,7 +99,7 @@ before d = elim d as (λ us t _. Before us) (λ l us t _. Before us) [
 ]
 
 pub formula-tidy : {l : ℕ} {ts : List Tok} {t : Tree} → IsFormula l ts t → Tidy false ts
-formula-tidy {ts} d = rw append-nil at (before d [] (λ j e. differ (cc)) tt)
+formula-tidy d = rw append-nil at (before d [] (λ j e. differ (cc)) tt)
 
 -- ---- a space before bytes
 -- tokens of which the first and those behind it are the same
@@ -174,7 +175,7 @@ upper-low b e = go (leb 65 b) refl e
     go true p q = leb-true 65 b p
     go false p q = absurd (false≢true q)
 
--- what the first byte of some begins
+-- the former tokens by the first byte
 former-step : (b : ℕ) (r : List ℕ) → formerTokens (b ∷ r) ≡ begins b (pairOn b r) (formerTokens r) (formerTokens (drop 1 r))
 unfolding formerTokens
 former-step b [] = refl
@@ -182,20 +183,20 @@ former-step b (c ∷ r) = refl
 
 -- a lower-case letter begins no operator, and is a token by itself
 module _ (b : ℕ) (l : lower b ≡ true) where
+  lower-other : (c : ℕ) → c < 97 → eqb b c ≡ false
+  lower-other c h = ne-eqb b c (λ e. omega (arith, lower-is b l .0))
+
   lower-no-pair : (r : List ℕ) → pairOn b r ≡ No
   unfolding pairOf
   lower-no-pair [] = refl
-  lower-no-pair (c ∷ r) = let h = lower-is b l in rw (ne-eqb b 69 (λ e. omega (arith, h .0)), ne-eqb b 65 (λ e. omega (arith, h .0))) refl
-
-  lower-no-capital : upper b ≡ false
-  lower-no-capital = let h = lower-is b l in rw (lt-leb b 90 (omega (arith, h .0))) (and-false (leb 65 b))
+  lower-no-pair (c ∷ r) = rw (lower-other 69 (omega arith), lower-other 65 (omega arith)) refl
 
   lower-single : formerSingle b ≡ Letter b
   unfolding formerSingle
-  lower-single = rw (lower-no-capital, l) refl
+  lower-single = rw (lt-leb b 90 (omega (arith, lower-is b l .0)), and-false (leb 65 b), l) refl
 
   lower-first : (r : List ℕ) → first (formerTokens (b ∷ r)) ≡ Letter b
-  lower-first r = let h = lower-is b l in rw (former-step b r, lower-no-pair r, ne-eqb b 32 (λ e. omega (arith, h .0))) lower-single
+  lower-first r = rw (former-step b r, lower-no-pair r, lower-other 32 (omega arith)) lower-single
 
 -- so bytes whose former tokens begin with no letter begin with none
 former-run : (r : List ℕ) → NoLetter (first (formerTokens r)) → run r ≡ 0
@@ -238,7 +239,7 @@ module _ (b : ℕ) (r : List ℕ) (none : pairOn b r ≡ No) (rest : (j : Bool) 
 operator-former : (i : Bool) (b c : ℕ) (m : Modal) (r : List ℕ) (ts : List Tok) → pairOf b c ≡ Is m → tokens r ≡ ts → i ≡ false → tokensIn i (b ∷ (c ∷ r)) ≡ Operator m ∷ ts
 operator-former i b c m r ts e f h = let k = pair-capital b c m e in rw h (operator-token b (k .0) (k .1) c m r e ∙ ap (λ x. Operator m ∷ x) f)
 
--- so, following the bytes
+-- following the bytes, in braces or outside: where no letters run together the tokens are the former ones
 pub tidy-tokens : (i : Bool) (s : List ℕ) → Tidy i (formerTokens s) → tokensIn i s ≡ formerTokens s
 unfolding tokensIn tokensBy formerTokens
 tidy-tokens i [] h = refl
