@@ -106,14 +106,38 @@ module _ (w : List ℕ) (i : ℕ) where
   unfolding word
   word-more h = rw (drop-cons w i 0 h, add-one i)
 
--- a number with one letter more
-pub word-fits : (f b r n i : ℕ) → b < 256 → i < n → n ≤ i + f → ((g : ℕ) → n ≤ i + 1 + g → r < 256 ^ g) → b + 256 * r < 256 ^ f
-word-fits ℕ.zero b r n i h k l w = absurd (omega arith)
-word-fits (suc f) b r n i h k l w = let q = w f (omega arith) in omega (arith, pow-suc 256 f)
-
 pub pow-some : (f : ℕ) → 0 < 256 ^ f
 pow-some ℕ.zero = omega arith
 pow-some (suc f) = let h = pow-some f in omega (arith, pow-suc 256 f)
+
+-- a number with one letter more
+word-fits : (f b r n i : ℕ) → b < 256 → i < n → n ≤ i + f → ((g : ℕ) → n ≤ i + 1 + g → r < 256 ^ g) → b + 256 * r < 256 ^ f
+word-fits ℕ.zero b r n i h k l w = absurd (omega arith)
+word-fits (suc f) b r n i h k l w = let q = w f (omega arith) in omega (arith, pow-suc 256 f)
+
+-- the letters from i on are packed, those from a on are to be
+pub record Packed (w : List ℕ) (a i x : ℕ) : Type 0 where
+  pub from : a ≤ i
+  pub inside : i ≤ length w
+  pub is : x ≡ word (drop i w)
+  pub small : (f : ℕ) → length w ≤ i + f → x < 256 ^ f
+
+pub packed-none : (w : List ℕ) (a : ℕ) → a ≤ length w → Packed w a (length w) 0
+packed-none w a h = record { from = h; inside = omega arith; is = sym (word-end w (length w) (omega arith)); small = λ f k. pow-some f }
+
+pub packed-next : {w : List ℕ} {a i x b : ℕ} → Packed w a i x → a < i → b ≡ getD w (i - 1) 0 → b < 256 → Packed w a (i - 1) (b + 256 * x)
+packed-next {w} {a} {i} {x} {b} p h e l =
+    let n = p .inside in
+    let j : i - 1 + 1 ≡ i = omega arith in
+    record {
+      from = omega arith;
+      inside = omega arith;
+      is = ap₂ (λ c y. c + 256 * y) e (p .is ∙ ap (λ k. word (drop k w)) (sym j)) ∙ sym (word-more w (i - 1) (omega arith));
+      small = λ f k. word-fits f b x (length w) (i - 1) l (omega arith) k (λ g m. p .small g (omega arith));
+    }
+
+pub packed-all : {w : List ℕ} {a i x : ℕ} → Packed w a i x → i ≤ a → (x ≡ word (drop a w)) × ((f : ℕ) → length w ≤ a + f → x < 256 ^ f)
+packed-all {w} {a} {i} {x} p h = let e : i ≡ a = omega (arith, p .from) in (p .is ∙ ap (λ k. word (drop k w)) e, λ f k. p .small f (omega arith))
 
 -- ---- spellings
 -- lower-case letters, and nothing else

@@ -41,15 +41,18 @@ pub fn is_spelling(w: &[u8]) -> bool
     run_end(w, 0) == w.len()
 }
 
-// The letters from i on, as a word.
-pub fn word_from(w: &[u8], i: usize) -> u64
-    requires { ⌜ (i ≤ length (now w)) × (length (now w) ≤ i + 8) ⌝ }
-    ensures { λ r. ⌜ (r ≡ word (drop i (now (w .entry)))) × ((f : ℕ) → length (now (w .entry)) ≤ i + f → r < 256 ^ f) ⌝ }
+// The letters from a on, as a word.
+pub fn word_from(w: &[u8], a: usize) -> u64
+    requires { ⌜ (a ≤ length (now w)) × (length (now w) ≤ a + 8) ⌝ }
+    ensures { λ r. ⌜ (r ≡ word (drop a (now (w .entry)))) × ((f : ℕ) → length (now (w .entry)) ≤ a + f → r < 256 ^ f) ⌝ }
 {
-    if i == w.len() {
-        return 0;
+    let mut i = w.len();
+    let mut x: u64 = 0;
+    while a < i {
+        i -= 1;
+        x = wide(w[i]) + 256 * x;
     }
-    wide(w[i]) + 256 * word_from(w, i + 1)
+    x
 }
 
 fn wide(b: u8) -> u64

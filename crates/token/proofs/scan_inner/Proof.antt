@@ -2,7 +2,7 @@
 use mathlib.Core.Path.{sym, _∙_}
 use native.Mathlib.Omega.{arith}
 use Rattle.token.specs.Token.{headFront, innerAt}
-use Rattle.token.proofs.Tokens.{past-end, upper-high, from-capital, from-plain, inner-is}
+use Rattle.token.proofs.Tokens.{past-end, upper-is, from-capital, from-plain, inner-is}
 use borrow.Author.Needs.{needs}
 use Rattle.token.proofs.scan_inner.Statement.{statement}
 use Rattle.token.proofs.scan_inner.Tie as tie
@@ -25,7 +25,7 @@ is-upper-requires : tie.Need-is-upper-requires
 is-upper-requires c κs = search needs
 
 head-capital-requires : tie.Need-head-capital-requires
-head-capital-requires c κs = (omega arith, upper-high _ (sym (c .before .is-upper .ensures) ∙ c .if2 .taken))
+head-capital-requires c κs = (omega arith, upper-is _ (sym (c .before .is-upper .ensures) ∙ c .if2 .taken) .1)
 
 returns-2 : tie.Need-returns-2
 unfolding innerAt
