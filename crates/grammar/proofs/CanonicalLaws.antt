@@ -15,9 +15,9 @@ use Rattle.token.specs.declared.Modal.the-variants.{Ex, Ax}
 use Rattle.token.specs.declared.Pair.the-variants.{Is, No}
 use Rattle.token.specs.declared.Tok.{Tok}
 use Rattle.token.specs.declared.Tok.the-variants.{Zero, One, Letter, Capital, Operator, Infix, Not, Open, Close, OpenBrace, CloseBrace, Comma}
-use Rattle.token.specs.Token.{pick, signOf, upper, pairOf, pairOn}
+use Rattle.token.specs.Token.{pick, signOf, upper, pairOf, pairOn, least}
 use Rattle.token.specs.Tokens.{within, tokensIn, tokens}
-use Rattle.token.proofs.TokensLaws.{Some, tokens-none, sign-token, symbol-token, capital-token, operator-token, back-token}
+use Rattle.token.proofs.TokensLaws.{some-of, tokens-none, sign-token, symbol-token, capital-token, operator-token, back-token}
 use Rattle.ctl.specs.Formula.{Form, tru, fls, lit, nlit, and, or, ex, ax, eu, au, er, ar}
 use Rattle.ctl.specs.Lists.{_∈_}
 use Rattle.ctl.specs.Modes.{modes}
@@ -99,26 +99,26 @@ abbrev sign : ℕ → Bool
 sign b = not (eqb b 32) && (not (upper b) && not (lower b))
 
 -- a sign, in braces and outside
-sign-read : (i : Bool) (b : ℕ) (k : Tok) (r : List ℕ) → T (sign b) → Some k → signOf b ≡ k → tokensIn i (b ∷ r) ≡ k ∷ tokensIn (within i k) r
+sign-read : (i : Bool) (b : ℕ) (k : Tok) (r : List ℕ) → T (sign b) → least k ≡ 1 → signOf b ≡ k → tokensIn i (b ∷ r) ≡ k ∷ tokensIn (within i k) r
 sign-read i b k r h x e = go (eqb b 32) (upper b) (lower b) refl refl refl h
   where
     go : (p u l : Bool) → eqb b 32 ≡ p → upper b ≡ u → lower b ≡ l → T (not p && (not u && not l)) → tokensIn i (b ∷ r) ≡ k ∷ tokensIn (within i k) r
-    go false false false p u l h = sign-token i b r (eqb-false b 32 p) k x u l e
+    go false false false p u l h = sign-token i b r (eqb-false b 32 p) k (some-of k x) u l e
     go false false true p u l h = absurd h
     go false true l p u q h = absurd h
     go true u l p q w h = absurd h
 
 comma-token : (r : List ℕ) → tokensIn true (44 ∷ r) ≡ Comma ∷ tokensIn true r
 unfolding signOf
-comma-token r = sign-read true 44 Comma r tt (record { least-one = refl; goes-on = λ a b. refl }) refl
+comma-token r = sign-read true 44 Comma r tt refl refl
 
 closing-token : (r : List ℕ) → tokensIn true (125 ∷ r) ≡ CloseBrace ∷ tokens r
 unfolding signOf
-closing-token r = sign-read true 125 CloseBrace r tt (record { least-one = refl; goes-on = λ a b. refl }) refl
+closing-token r = sign-read true 125 CloseBrace r tt refl refl
 
 opening-token : (r : List ℕ) → tokens (123 ∷ r) ≡ OpenBrace ∷ tokensIn true r
 unfolding signOf
-opening-token r = sign-read false 123 OpenBrace r tt (record { least-one = refl; goes-on = λ a b. refl }) refl
+opening-token r = sign-read false 123 OpenBrace r tt refl refl
 
 lower-all : (w : List ℕ) → ((b : ℕ) → b ∈ w → (97 ≤ b) × (b ≤ 122)) → Lower w
 lower-all [] h = tt
@@ -179,7 +179,7 @@ Ending : List ℕ → List Tok → Type 0
 Ending s ts = (r : List ℕ) → NoLetter r → tokens (s ++ r) ≡ ts ++ tokens r
 
 -- a byte outside braces that no letter goes on, and no brace
-one-reading : (b : ℕ) (k : Tok) → T (sign b) → within false k ≡ false → Some k → signOf b ≡ k → Reading (b ∷ []) (k ∷ [])
+one-reading : (b : ℕ) (k : Tok) → T (sign b) → within false k ≡ false → least k ≡ 1 → signOf b ≡ k → Reading (b ∷ []) (k ∷ [])
 unfolding Reading
 one-reading b k h w x e r = sign-read false b k r h x e ∙ ap (λ i. k ∷ tokensIn i r) w
 
@@ -209,9 +209,9 @@ two-reading : (s u : List ℕ) (b : ℕ) (ts us : List Tok) (k : Tok) → lower 
 unfolding signOf Reading
 two-reading s u b ts us k n m h g =
     rw (append-assoc ts (k ∷ us) (Close ∷ []), ← append-snoc s b (u ++ (41 ∷ [])), ← append-snoc ts k (us ++ (Close ∷ [])))
-    (join-ending (40 ∷ []) (s ++ (b ∷ []) ++ (u ++ (41 ∷ []))) (Open ∷ []) (ts ++ (k ∷ []) ++ (us ++ (Close ∷ []))) (one-reading 40 Open tt refl (record { least-one = refl; goes-on = λ x y. refl }) refl)
+    (join-ending (40 ∷ []) (s ++ (b ∷ []) ++ (u ++ (41 ∷ []))) (Open ∷ []) (ts ++ (k ∷ []) ++ (us ++ (Close ∷ []))) (one-reading 40 Open tt refl refl refl)
     (join-ending (s ++ (b ∷ [])) (u ++ (41 ∷ [])) (ts ++ (k ∷ [])) (us ++ (Close ∷ [])) (then-sign s b ts k h n m)
-    (end-reading (u ++ (41 ∷ [])) (us ++ (Close ∷ [])) (then-sign u 41 us Close g refl (one-reading 41 Close tt refl (record { least-one = refl; goes-on = λ x y. refl }) refl)))))
+    (end-reading (u ++ (41 ∷ [])) (us ++ (Close ∷ [])) (then-sign u 41 us Close g refl (one-reading 41 Close tt refl refl refl)))))
 
 module _ (at : ℕ → List ℕ) (count : ℕ) (alpha : Alphabet at count) where
   symbol-ending : (k : ℕ) → k < count → Ending (at k) (Letter (word (at k)) ∷ [])
@@ -238,17 +238,17 @@ module _ (at : ℕ → List ℕ) (count : ℕ) (alpha : Alphabet at count) where
   unfolding pairOf
   r-reading = capital-reading 82 (omega arith) (omega arith) (λ c. refl)
 
-  plain-reading : (b : ℕ) (k : Tok) → T (sign b) → within false k ≡ false → Some k → signOf b ≡ k → Ending (b ∷ []) (k ∷ [])
+  plain-reading : (b : ℕ) (k : Tok) → T (sign b) → within false k ≡ false → least k ≡ 1 → signOf b ≡ k → Ending (b ∷ []) (k ∷ [])
   plain-reading b k h w x e = end-reading (b ∷ []) (k ∷ []) (one-reading b k h w x e)
 
   print-ending : (φ : Form) → Over count φ → Ending (print at φ) (toks at φ)
   unfolding print signOf pairOf
-  print-ending tru h = plain-reading 49 One tt refl (record { least-one = refl; goes-on = λ x y. refl }) refl
-  print-ending fls h = plain-reading 48 Zero tt refl (record { least-one = refl; goes-on = λ x y. refl }) refl
+  print-ending tru h = plain-reading 49 One tt refl refl refl
+  print-ending fls h = plain-reading 48 Zero tt refl refl refl
   print-ending (lit k) h = symbol-ending k h
-  print-ending (nlit k) h = join-ending (33 ∷ []) (at k) (Not ∷ []) (Letter (word (at k)) ∷ []) (one-reading 33 Not tt refl (record { least-one = refl; goes-on = λ x y. refl }) refl) (symbol-ending k h)
-  print-ending (and p q) h = two-reading (print at p) (print at q) 38 (toks at p) (toks at q) (Infix 2) refl (one-reading 38 (Infix 2) tt refl (record { least-one = refl; goes-on = λ x y. refl }) refl) (print-ending p (h .0)) (print-ending q (h .1))
-  print-ending (or p q) h = two-reading (print at p) (print at q) 124 (toks at p) (toks at q) (Infix 1) refl (one-reading 124 (Infix 1) tt refl (record { least-one = refl; goes-on = λ x y. refl }) refl) (print-ending p (h .0)) (print-ending q (h .1))
+  print-ending (nlit k) h = join-ending (33 ∷ []) (at k) (Not ∷ []) (Letter (word (at k)) ∷ []) (one-reading 33 Not tt refl refl refl) (symbol-ending k h)
+  print-ending (and p q) h = two-reading (print at p) (print at q) 38 (toks at p) (toks at q) (Infix 2) refl (one-reading 38 (Infix 2) tt refl refl refl) (print-ending p (h .0)) (print-ending q (h .1))
+  print-ending (or p q) h = two-reading (print at p) (print at q) 124 (toks at p) (toks at q) (Infix 1) refl (one-reading 124 (Infix 1) tt refl refl refl) (print-ending p (h .0)) (print-ending q (h .1))
   print-ending (ex A p) h = modal-ending 69 Ex A (print at p) (toks at p) (omega arith) (omega arith) refl (h .0) (print-ending p (h .1))
   print-ending (ax A p) h = modal-ending 65 Ax A (print at p) (toks at p) (omega arith) (omega arith) refl (h .0) (print-ending p (h .1))
   print-ending (eu A p q) h = path-ending 69 A _ _ (omega arith) (omega arith) refl (h .0) (two-reading (print at p) (print at q) 85 (toks at p) (toks at q) (Capital 117) refl u-reading (print-ending p (h .1)) (print-ending q (h .2)))

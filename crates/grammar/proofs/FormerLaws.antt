@@ -1,12 +1,12 @@
 -- A line from which the grammar of document 01 derived a tree has that same tree now. Assumes nothing.
 use mathlib.Core.Path.{_≡_, refl, sym, ap, ap₂, _∙_}
-use mathlib.Core.Bool.{Bool, true, false, cond, _&&_, and-false, false≢true}
+use mathlib.Core.Bool.{Bool, true, false, cond, and-false, false≢true}
 use mathlib.Core.List.{List, [], _∷_, _++_, append-assoc, append-nil}
 use Prim.Native.Nat.{ℕ, suc, _+_, _≤_, _<_}
 use native.Mathlib.Omega.{arith}
 use lib.ListN.{drop}
 use lib.Dec.{eqb, leb}
-use borrow.Author.Tests.{ne-eqb, eqb-true, eqb-false, lt-leb, leb-true}
+use borrow.Author.Tests.{ne-eqb, eqb-true, eqb-false, lt-leb}
 use Rattle.spelling.specs.Spelling.{lower, run, word}
 use Rattle.spelling.proofs.SpellingLaws.{lower-is}
 use Rattle.token.specs.declared.Modal.{Modal}
@@ -15,10 +15,10 @@ use Rattle.token.specs.declared.Pair.the-variants.{Is, No}
 use Rattle.token.specs.declared.Tok.{Tok}
 use Rattle.token.specs.declared.Tok.the-variants.{End, Zero, One, Letter, Capital, Operator, Infix, Not, Open, Close, OpenBrace, CloseBrace, Comma, Other}
 use Rattle.token.specs.declared.Token.{Token}
-use Rattle.token.specs.Token.{pick, spaces, skip, signOf, upper, pairOf, pairOn, placed, aloneFront, headFront, frontBy, tokenBy, tokenAt, innerAt, onEnd, least}
+use Rattle.token.specs.Token.{pick, spaces, skip, signOf, upper, pairOf, pairOn, aloneFront, headFront, frontBy, tokenBy, tokenAt, innerAt}
 use Rattle.token.specs.Tokens.{within, readAt, tokensBy, tokensIn, tokens}
-use Rattle.token.proofs.Tokens.{least-sign, upper-high}
-use Rattle.token.proofs.TokensLaws.{first, Some, Ahead, ahead, tokens-end, sign-token, symbol-token, capital-token, operator-token, back-token}
+use Rattle.token.proofs.Tokens.{least-sign, upper-is}
+use Rattle.token.proofs.TokensLaws.{first, Some, some-of, Ahead, ahead, tokens-end, sign-token, symbol-token, capital-token, operator-token, back-token}
 use Rattle.grammar.specs.Grammar.{Mode, forward, backward, Tree, modeToken, commas, braces, quantifier, connective, is-zero, is-one, is-letter, is-bracketed, is-neg, is-modal, is-path, IsFormula, is-unit, is-operand, is-infixed, Line}
 use Rattle.grammar.specs.Former.{formerSingle, begins, formerTokens, FormerLine}
 
@@ -134,25 +134,8 @@ module _ (r : List ℕ) where
       (rw e at (ahead i (32 ∷ r) 0)) (ahead i r 0) (λ q. tokens-end i (32 ∷ r) (ap (λ t. t .tok) e ∙ q) ∙ sym (tokens-end i r q))
 
 -- ---- bytes whose former tokens are tidy have these tokens now
--- a token with a byte is no end
-goes-on : (k : Tok) → least k ≡ 1 → (a b : List Tok) → onEnd k a b ≡ b
-goes-on End e a b = absurd (omega arith)
-goes-on Zero e a b = refl
-goes-on One e a b = refl
-goes-on (Letter k) e a b = refl
-goes-on (Capital k) e a b = refl
-goes-on (Operator m) e a b = refl
-goes-on (Infix l) e a b = refl
-goes-on Not e a b = refl
-goes-on Open e a b = refl
-goes-on Close e a b = refl
-goes-on OpenBrace e a b = refl
-goes-on CloseBrace e a b = refl
-goes-on Comma e a b = refl
-goes-on Other e a b = refl
-
 sign-some : (b : ℕ) → Some (signOf b)
-sign-some b = record { least-one = least-sign b; goes-on = goes-on (signOf b) (least-sign b) }
+sign-some b = some-of (signOf b) (least-sign b)
 
 word-one : (b : ℕ) → word (b ∷ []) ≡ b
 unfolding word
@@ -167,13 +150,6 @@ pair-capital b c m e = go (eqb b 69) (eqb b 65) refl refl
     go true y p q = let z = eqb-true b 69 p in (omega arith, omega arith)
     go false true p q = let z = eqb-true b 65 q in (omega arith, omega arith)
     go false false p q = let f : No ≡ Is m = rw (p, q) at e in absurd (differ (cc))
-
-upper-low : (b : ℕ) → upper b ≡ true → 65 ≤ b
-upper-low b e = go (leb 65 b) refl e
-  where
-    go : (x : Bool) → leb 65 b ≡ x → (x && leb b 90) ≡ true → 65 ≤ b
-    go true p q = leb-true 65 b p
-    go false p q = absurd (false≢true q)
 
 -- the former tokens by the first byte
 former-step : (b : ℕ) (r : List ℕ) → formerTokens (b ∷ r) ≡ begins b (pairOn b r) (formerTokens r) (formerTokens (drop 1 r))
@@ -216,8 +192,8 @@ singleBy b u l = pick u (Capital (b + 32)) (pick l (Letter b) (signOf b))
 module _ (b : ℕ) (r : List ℕ) (none : pairOn b r ≡ No) (rest : (j : Bool) → Tidy j (formerTokens r) → tokensIn j r ≡ formerTokens r) where
   capital-former : (i : Bool) → upper b ≡ true → Tidy i (Capital (b + 32) ∷ formerTokens r) → tokensIn i (b ∷ r) ≡ Capital (b + 32) ∷ formerTokens r
   capital-former true u h =
-      back-token b (upper-low b u) (upper-high b u) [] r tt (omega arith) (former-run r (h .0 refl)) ∙ ap₂ (λ k x. Capital k ∷ x) (word-one (b + 32)) (rest true (h .1))
-  capital-former false u h = capital-token b (upper-low b u) (upper-high b u) r none ∙ ap (λ x. Capital (b + 32) ∷ x) (rest false (h .1))
+      back-token b (upper-is b u .0) (upper-is b u .1) [] r tt (omega arith) (former-run r (h .0 refl)) ∙ ap₂ (λ k x. Capital k ∷ x) (word-one (b + 32)) (rest true (h .1))
+  capital-former false u h = capital-token b (upper-is b u .0) (upper-is b u .1) r none ∙ ap (λ x. Capital (b + 32) ∷ x) (rest false (h .1))
 
   single-former : (i : Bool) → (b ≡ 32 → ⊥) → Tidy i (formerSingle b ∷ formerTokens r) → tokensIn i (b ∷ r) ≡ formerSingle b ∷ formerTokens r
   unfolding formerSingle

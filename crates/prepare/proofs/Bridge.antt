@@ -100,7 +100,7 @@ module _ {ws : List ℕ} (ms : Members ws) where
 
 -- ---- globals and goal
 
-globals-goal : (l : List Raw) → 0 < length l → globalsOf l ++ (goalOf l ∷ []) ≡ l
+pub globals-goal : (l : List Raw) → 0 < length l → globalsOf l ++ (goalOf l ∷ []) ≡ l
 unfolding globalsOf goalOf
 globals-goal [] h = absurd (omega arith)
 globals-goal (p ∷ []) h = refl

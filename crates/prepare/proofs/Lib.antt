@@ -3,3 +3,4 @@ pub mod SplitLaws
 pub mod SplitBridge
 pub mod WidthLaws
 pub mod NameCount
+pub mod FormerLaws

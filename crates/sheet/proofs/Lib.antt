@@ -9,3 +9,4 @@ pub mod KindLaws
 pub mod DeclaredLaws
 pub mod SizeLaws
 pub mod GoalLaws
+pub mod FormerLaws

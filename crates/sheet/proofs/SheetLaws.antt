@@ -13,7 +13,7 @@ use native.Mathlib.Decide.{decLe}
 use Rattle.ctl.proofs.BoolLaws.{and-both}
 use Rattle.layout.specs.declared.formulas.Span.{Span}
 use Rattle.layout.specs.Layout.{lines, texts, textsOf, linesFrom, endsRight, startsRight, layoutRight, LastText, goalOf, lastOf}
-use Rattle.head.specs.Head.{spellings, kinds, layoutRefusal, Accepted, HeadRead}
+use Rattle.head.specs.Head.{kinds, layoutRefusal, Accepted, HeadRead}
 use Rattle.layout.proofs.ScanLaws.{part-length}
 use Rattle.layout.proofs.LineLaws.{lines-end}
 use Rattle.layout.proofs.FormulaTexts.{texts-length}

@@ -1,5 +1,5 @@
 -- The spelling of a symbol, 1 to 8 lower-case letters, and the same letters as one number. Assumes nothing: these are definitions.
-use mathlib.Core.Bool.{Bool, cond, true, _&&_}
+use mathlib.Core.Bool.{Bool, cond, _&&_}
 use mathlib.Core.List.{List, [], _∷_}
 use Prim.Native.Nat.{ℕ, suc, _+_, _*_, _/_, _%_}
 use lib.ListN.{length, take}

@@ -1,12 +1,11 @@
 -- Laws of `tokens`: the token at a position is the first of the tokens from there on. Assumes nothing.
-use mathlib.Core.Path.{_≡_, refl, sym, ap, ap₂, _∙_}
-use mathlib.Core.Bool.{Bool, true, false, _&&_}
+use mathlib.Core.Path.{_≡_, refl, sym, ap, _∙_}
+use mathlib.Core.Bool.{Bool, true, false, and-false}
 use mathlib.Core.Logic.{_⊎_, inl, inr}
 use mathlib.Core.List.{List, [], _∷_, _++_}
 use Prim.Native.Nat.{ℕ, suc, _+_, _-_, _≤_, _<_}
 use native.Mathlib.Omega.{arith}
-use native.Mathlib.Nat.{add-zero}
-use lib.ListN.{length, getD, take, drop, length-drop, drop-of-length-le, length-append}
+use lib.ListN.{length, take, drop, length-drop, drop-of-length-le}
 use lib.Seq.{drop-drop, take-at, drop-at}
 use lib.Dec.{leb, ltb}
 use borrow.Author.Tests.{ne-eqb, lt-ltb, le-leb, lt-leb}
@@ -55,6 +54,13 @@ end-or-some OpenBrace = some OpenBrace refl (λ a b. refl)
 end-or-some CloseBrace = some CloseBrace refl (λ a b. refl)
 end-or-some Comma = some Comma refl (λ a b. refl)
 end-or-some Other = some Other refl (λ a b. refl)
+
+pub some-of : (k : Tok) → least k ≡ 1 → Some k
+some-of k l = go (end-or-some k)
+  where
+    go : (k ≡ End) ⊎ Some k → Some k
+    go (inl e) = let z : least End ≡ 1 = sym (ap least e) ∙ l in absurd (omega arith)
+    go (inr x) = x
 
 -- ---- one token after the other
 module _ (i : Bool) (s : List ℕ) where
@@ -215,10 +221,6 @@ module _ (i : Bool) (b : ℕ) (r : List ℕ) (n : b ≡ 32 → ⊥) where
   unfolding plainFront
   sign-token k x u l e = tokens-by k 1 x (front-plain (capitalOf i) b r u ∙ rw (l, e) refl)
 
-and-false : (x : Bool) → (x && false) ≡ false
-and-false true = refl
-and-false false = refl
-
 -- a symbol, before what is no letter
 pub symbol-token : (i : Bool) (b : ℕ) (w r : List ℕ) → Lower (b ∷ w) → length (b ∷ w) ≤ 8 → run r ≡ 0 → tokensIn i (b ∷ (w ++ r)) ≡ Letter (word (b ∷ w)) ∷ tokensIn i r
 unfolding plainFront runFront
@@ -226,7 +228,7 @@ symbol-token i b w r l h e =
     let lo = l .0 .0 in
     let size : run ((b ∷ w) ++ r) ≡ length (b ∷ w) = run-whole (b ∷ w) r l e in
     let u : upper b ≡ false = rw (lt-leb b 90 (omega arith)) (and-false (leb 65 b)) in
-    tokens-by i b (w ++ r) (λ q. omega arith) (Letter (word (b ∷ w))) (length (b ∷ w)) (record { least-one = refl; goes-on = λ x y. refl })
+    tokens-by i b (w ++ r) (λ q. omega arith) (Letter (word (b ∷ w))) (length (b ∷ w)) (some-of (Letter (word (b ∷ w))) refl)
     (front-plain (capitalOf i) b (w ++ r) u ∙ rw (is-lower-case b lo (l .0 .1), size, le-leb (length (b ∷ w)) 8 h, take-at (b ∷ w) r (length (b ∷ w)) refl) refl)
     ∙ ap (λ x. Letter (word (b ∷ w)) ∷ tokensIn i x) (drop-at (b ∷ w) r (length (b ∷ w)) refl)
 
@@ -242,13 +244,13 @@ module _ (b : ℕ) (lo : 65 ≤ b) (hi : b ≤ 90) where
   pub capital-token : (r : List ℕ) → pairOn b r ≡ No → tokens (b ∷ r) ≡ Capital (b + 32) ∷ tokens r
   unfolding aloneFront
   capital-token r e =
-      tokens-by false b r (capital-no-space b lo) (Capital (b + 32)) 1 (record { least-one = refl; goes-on = λ x y. refl })
+      tokens-by false b r (capital-no-space b lo) (Capital (b + 32)) 1 (some-of (Capital (b + 32)) refl)
       (front-capital aloneFront b r is-upper ∙ rw e refl)
 
   pub operator-token : (c : ℕ) (m : Modal) (r : List ℕ) → pairOf b c ≡ Is m → tokens (b ∷ (c ∷ r)) ≡ Operator m ∷ tokens r
   unfolding aloneFront
   operator-token c m r e =
-      tokens-by false b (c ∷ r) (capital-no-space b lo) (Operator m) 2 (record { least-one = refl; goes-on = λ x y. refl })
+      tokens-by false b (c ∷ r) (capital-no-space b lo) (Operator m) 2 (some-of (Operator m) refl)
       (front-capital aloneFront b (c ∷ r) is-upper ∙ rw e refl)
 
   -- in braces: with the letters behind it, before what is no letter
@@ -257,7 +259,7 @@ module _ (b : ℕ) (lo : 65 ≤ b) (hi : b ≤ 90) where
   back-token w r l h e =
       let size : run (w ++ r) ≡ length w = run-whole w r l e in
       let z : length w + 1 ≡ suc (length w) = omega arith in
-      tokens-by true b (w ++ r) (capital-no-space b lo) (Capital (word ((b + 32) ∷ w))) (suc (length w)) (record { least-one = refl; goes-on = λ x y. refl })
+      tokens-by true b (w ++ r) (capital-no-space b lo) (Capital (word ((b + 32) ∷ w))) (suc (length w)) (some-of (Capital (word ((b + 32) ∷ w))) refl)
       (front-capital headFront b (w ++ r) is-upper ∙ rw (size, lt-ltb (length w) 8 (omega arith), take-at w r (length w) refl, z) refl)
       ∙ ap (λ x. Capital (word ((b + 32) ∷ w)) ∷ tokensIn true x) (drop-at w r (length w) refl)
 

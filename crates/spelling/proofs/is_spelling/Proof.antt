@@ -1,6 +1,5 @@
 -- `spelling::is_spelling` meets its contract: the tests are those of `spelled`. Assumes nothing.
 use mathlib.Core.Path.{ap, _∙_}
-use native.Mathlib.Omega.{arith}
 use lib.Dec.{eqb}
 use lib.ListN.{length}
 use borrow.Author.Needs.{needs}

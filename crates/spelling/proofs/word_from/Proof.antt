@@ -1,5 +1,4 @@
 -- `spelling::word_from` meets its contract. The invariant: the letters behind i are packed. Assumes nothing.
-use Prim.Native.Nat.{_-_}
 use native.Mathlib.Omega.{arith}
 use Rattle.spelling.proofs.SpellingLaws.{Packed, packed-none, packed-next, packed-all}
 use Rattle.spelling.proofs.word_from.Statement.{statement}

@@ -1,6 +1,5 @@
 -- `token::next_infix` meets its contract, by the laws of SignLaws. Assumes nothing.
 use mathlib.Core.Path.{ap, _∙_}
-use Prim.Native.Nat.{ℕ}
 use Rattle.token.specs.declared.Look.{Look}
 use Rattle.token.specs.Token.{signOf}
 use Rattle.token.specs.Signs.{infixOf}

@@ -1,0 +1,38 @@
+-- Sheets of single letters give what they gave: their tableau, and so every table, count, round and verdict, is the one by letters. Assumes nothing.
+use mathlib.Core.Path.{_≡_, refl, subst}
+use mathlib.Core.List.{List, [], _∷_, _++_, List·Memᴰ·head, Memᴰ·append-left, Memᴰ·append-right}
+use Prim.Native.Nat.{ℕ, _<_}
+use native.Mathlib.Omega.{arith}
+use lib.ListN.{length, getD}
+use Rattle.ctl.specs.Lists.{_∈_}
+use Rattle.ctl.specs.Former.{formerTableau}
+use Rattle.ctl.proofs.FormerLaws.{tableau-former}
+use Rattle.head.specs.Head.{spellings}
+use Rattle.head.proofs.Spellings.{sheet-spellings}
+use Rattle.sheet.specs.Refusal.{readRefusal}
+use Rattle.sheet.specs.Reading.{formulas, globalsOf, goalOf, isName, spellOf}
+use Rattle.sheet.proofs.DeclaredLaws.{formulas-over}
+use Rattle.prepare.specs.Prepared.{tableauIn}
+use Rattle.prepare.proofs.Bridge.{globals-goal, formulas-some}
+
+-- every symbol has one letter
+abbrev pub Single : List ℕ → Type 0
+Single s = (k : ℕ) → k < length (spellings s) → length (spellOf s k) ≡ 1
+
+-- that letter
+abbrev pub letterOf : List ℕ → ℕ → ℕ
+letterOf s k = getD (spellOf s k) 0 0
+
+one-letter : (w : List ℕ) → length w ≡ 1 → w ≡ getD w 0 0 ∷ []
+one-letter [] e = absurd (omega arith)
+one-letter (b ∷ []) e = refl
+one-letter (b ∷ (c ∷ w)) e = absurd (omega arith)
+
+module _ (s : List ℕ) (z : readRefusal s ≡ 0) where
+  split : globalsOf (formulas s) ++ (goalOf (formulas s) ∷ []) ≡ formulas s
+  split = globals-goal (formulas s) (formulas-some s z)
+
+  pub tableau-single : Single s → tableauIn s ≡ formerTableau (letterOf s) (isName s) (globalsOf (formulas s)) (goalOf (formulas s))
+  tableau-single one = tableau-former (spellOf s) (letterOf s) (length (spellings s)) (sheet-spellings s .few) (λ k h. one-letter (spellOf s k) (one k h)) (isName s) (globalsOf (formulas s)) (goalOf (formulas s))
+      (λ p m. formulas-over s z p (subst (λ l. p ∈ l) split (Memᴰ·append-left m)))
+      (formulas-over s z (goalOf (formulas s)) (subst (λ l. goalOf (formulas s) ∈ l) split (Memᴰ·append-right (globalsOf (formulas s)) (List·Memᴰ·head refl))))
