@@ -15,8 +15,10 @@ const GUIDE: &str = "docs/SHEETS.md";
 /// The guide's sheet of most snapshots, and the one with a name.
 const DRAWN: &str = "k f\nmark field\ngoal EX{f}k\n";
 const NAMED: &str = "v f\nname field\ngoal 1\n";
-/// Lines 1 and 2 of the formulas and the typing errors.
+/// Lines 1 and 2 of the table of formulas, of the list of typing errors, and of the table of typing errors in symbols.
+const WORDS: &str = "capture thumb waits held\nmark mark field field\n";
 const LETTERS: &str = "c t w h\nmark mark field field\n";
+const MORE_WORDS: &str = "capture thumb lock busy waits held\nmark mark mark mark field field\n";
 /// In the list of typing errors, what was meant begins at this column.
 const MEANT: usize = 37;
 
@@ -206,21 +208,33 @@ fn typing_errors(at: usize, line: &str) -> Vec<Claim> {
             .map(str::trim)
             .filter(|formula| !formula.is_empty());
         formulas
-            .map(|formula| verdict(at, format!("{LETTERS}goal {formula}\n"), answer))
+            .map(|formula| under(LETTERS, at, formula, answer))
             .collect()
     };
     [each(wrong, "refused 6"), each(meant, "accepted")].concat()
 }
 
-/// A row of the tables of formulas, of refusals and of changes. Any other claims nothing.
+/// A goal below these lines 1 and 2.
+fn under(lines: &str, at: usize, formula: &str, answer: &str) -> Claim {
+    verdict(at, format!("{lines}goal {formula}\n"), answer)
+}
+
+/// A row of the tables of formulas, of typing errors in symbols, of refusals and of changes. There is no other table.
 fn of_row(at: usize, heading: &str, row: &str) -> Vec<Claim> {
     let cells: Vec<&str> = row.trim_matches('|').split(" | ").map(str::trim).collect();
     if heading.starts_with("| written |") {
         let formulas = spans(cells[0]);
         return formulas
             .iter()
-            .map(|formula| verdict(at, format!("{LETTERS}goal {formula}\n"), "accepted"))
+            .map(|formula| under(WORDS, at, formula, "accepted"))
             .collect();
+    }
+    if heading.starts_with("| typed | refused |") {
+        let (wrong, meant) = (spans(cells[0])[0], spans(cells[3])[0]);
+        return vec![
+            under(MORE_WORDS, at, wrong, &format!("refused {}", cells[1])),
+            under(MORE_WORDS, at, meant, "accepted"),
+        ];
     }
     if heading.starts_with("| change |") {
         return vec![
@@ -251,7 +265,7 @@ fn of_row(at: usize, heading: &str, row: &str) -> Vec<Claim> {
             ..verdict(at, sheet.to_string(), &refused)
         }];
     }
-    vec![]
+    panic!("line {}: a table of another kind", at + 1)
 }
 
 /// What stands between backquotes.
