@@ -19,6 +19,9 @@
  * table, book, list:   12 store (too short)
  * snapshot:   13 snapshot   14 entry   15 twice   16 row (below, at lockgraph_snapshot)
  *
+ * A symbol is 1 to 8 lower-case letters. 4: line 1 is anything but 1 to 8 different symbols with single spaces between. 6: also a run of more than 8 letters in a formula, or in braces a capital
+ * that is not a mode's first letter. 7: a symbol that line 1 does not have (two that are typed together are read as one), or of the wrong kind for its place.
+ *
  * docs/SHEETS.md says how a sheet is written and what a verdict means; crates/ctl/specs/Tableau what types and namings are. A set of types is W words (1, 2 or 4): type j is bit j mod 64 of word j div 64. */
 #ifndef LOCKGRAPH_H
 #define LOCKGRAPH_H
@@ -61,8 +64,8 @@ uint8_t lockgraph_goal(const uint8_t *sheet, size_t sheet_len, uint64_t out[2]);
  * each symbol of line 1, in that order, with single spaces between and none at its ends:
  * - for a mark or a name, 1 if it is on the node, else 0;
  * - for a field, the number of the node it leads to, from 1, or 0 if it leads nowhere.
- * Numbers are decimal, of 1 or 2 digits, without a leading 0. Under a sheet whose mark is k and whose field is f, the text "k f\n0 2\n1 0\n" has two nodes: k is on node 2 alone, and f
- * leads from node 1 to node 2 and from there nowhere.
+ * Numbers are decimal, of 1 or 2 digits, without a leading 0. Under a sheet whose mark is lock and whose field is waits, the text "lock waits\n0 2\n1 0\n" has two nodes: lock is on node 2
+ * alone, and waits leads from node 1 to node 2 and from there nowhere.
  *
  * Refused, each asked of the whole text before the next one is asked:
  * 13  the text is over 1,024 bytes, or has another shape than that: another first line, no node or over 16, no newline at the end, an empty line, an entry too few or too many,

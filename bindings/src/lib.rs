@@ -12,7 +12,7 @@
 //! ```
 //! use lockgraph::{verdict, Verdict};
 //!
-//! let sheet = b"k f\nmark field\ngoal EX{f}k&EX{f}!k\n";
+//! let sheet = b"thumb held\nmark field\ngoal EX{held}thumb&EX{held}!thumb\n";
 //! assert_eq!(verdict(sheet), Ok(Verdict::Unsatisfiable));
 //! ```
 #![deny(missing_docs)]
@@ -111,7 +111,11 @@ pub enum Verdict {
 /// ```
 /// use lockgraph::{table, Refusal, Store};
 ///
-/// let sheet = b"c t p w h\nmark mark mark field field\nall p>AX{w}0\ngoal c&EX{w}EX{h}(t&EX{w}EX{h}p)\n";
+/// let sheet = b"capture thumb preview waits held
+/// mark mark mark field field
+/// all preview>AX{waits}0
+/// goal capture&EX{waits}EX{held}(thumb&EX{waits}EX{held}preview)
+/// ";
 /// let (mut first, mut second) = ([7; 5], [7; 5]);
 /// let table = table(sheet, 0, &mut first, &mut second)?;
 /// assert_eq!((table.start, table.left, table.rounds), (192, 60, 3));
@@ -196,7 +200,11 @@ pub fn list<'a>(sheet: &[u8], naming: u64, store: &'a mut [u16]) -> Result<&'a [
 /// ```
 /// use lockgraph::{verdict, Refusal, Verdict};
 ///
-/// let sheet = b"c t p w h\nmark mark mark field field\nall p>AX{w}0\ngoal c&EX{w}EX{h}(t&EX{w}EX{h}p)\n";
+/// let sheet = b"capture thumb preview waits held
+/// mark mark mark field field
+/// all preview>AX{waits}0
+/// goal capture&EX{waits}EX{held}(thumb&EX{waits}EX{held}preview)
+/// ";
 /// assert_eq!(verdict(sheet), Ok(Verdict::Open { naming: 0, type_number: 129 }));
 /// assert_eq!(verdict(b"k\nmark\ngoal k&!k\n"), Ok(Verdict::Unsatisfiable));
 /// assert_eq!(verdict(b""), Err(Refusal::Length));
@@ -239,13 +247,13 @@ pub fn goal_text(sheet: &[u8]) -> Result<&str, Refusal> {
 /// ```
 /// use lockgraph::{snapshot, Refusal, ROW_BYTES};
 ///
-/// let sheet = b"k f\nmark field\nall k>AX{f}0\ngoal EX{f}k\n";
+/// let sheet = b"ready waits\nmark field\nall ready>AX{waits}0\ngoal EX{waits}ready\n";
 /// let mut row = [7; ROW_BYTES];
-/// assert_eq!(snapshot(sheet, b"k f\n0 2\n1 1\n", &mut row)?, [3, 0]);
+/// assert_eq!(snapshot(sheet, b"ready waits\n0 2\n1 1\n", &mut row)?, [3, 0]);
 /// assert_eq!(row[2], 7);
 ///
-/// assert_eq!(snapshot(sheet, b"k f\n0 3\n1 1\n", &mut row), Err(Refusal::Entry));
-/// assert_eq!(snapshot(sheet, b"k f\n0 2\n1 1\n", &mut row[..1]), Err(Refusal::Row));
+/// assert_eq!(snapshot(sheet, b"ready waits\n0 3\n1 1\n", &mut row), Err(Refusal::Entry));
+/// assert_eq!(snapshot(sheet, b"ready waits\n0 2\n1 1\n", &mut row[..1]), Err(Refusal::Row));
 /// # Ok::<(), Refusal>(())
 /// ```
 pub fn snapshot<'a>(sheet: &[u8], text: &[u8], row: &'a mut [u8]) -> Result<&'a [u8], Refusal> {

@@ -14,6 +14,9 @@ use std::fmt;
 /// assert_eq!(refusal, Refusal::Kinds);
 /// assert_eq!(refusal.number(), 5);
 /// assert!(refusal.to_string().starts_with("refused 5: "));
+///
+/// // Two symbols typed together are read as one, and line 1 does not have it.
+/// assert_eq!(verdict(b"lock busy\nmark mark\ngoal lockbusy\n"), Err(Refusal::Symbol));
 /// ```
 #[derive(Clone, Copy, Debug, PartialEq, Eq, PartialOrd, Ord, Hash)]
 #[repr(u8)]
@@ -24,15 +27,15 @@ pub enum Refusal {
     Byte = 2,
     /// The sheet has no final newline, not 3 to 7 lines, or a line with a wrong beginning.
     Layout = 3,
-    /// Line 1 is not 1 to 8 different lower-case letters with single spaces.
+    /// Line 1 is not 1 to 8 different symbols, each of 1 to 8 lower-case letters, with single spaces between.
     Names = 4,
-    /// Line 2 is not `mark`, `name` or `field` for each letter, or has more than 2 names.
+    /// Line 2 is not `mark`, `name` or `field` for each symbol, or has more than 2 names.
     Kinds = 5,
-    /// A formula does not parse.
+    /// A formula does not parse. Nor does a run of more than 8 lower-case letters, in braces or outside.
     Grammar = 6,
-    /// A letter that line 1 does not have, or one of the wrong kind for its place.
+    /// A symbol that line 1 does not have, or one of the wrong kind for its place. Two symbols typed together are read as one.
     Symbol = 7,
-    /// Empty braces, or a field twice in them.
+    /// Empty braces, or a mode twice in them: a field in one direction.
     Braces = 8,
     /// Over 64 formulas with all their parts and expansions.
     Closure = 9,
@@ -111,14 +114,14 @@ impl Refusal {
                 "the sheet's lines are not 3 to 7 with the right beginnings and a final newline"
             }
             Refusal::Names => {
-                "line 1 is not 1 to 8 different lower-case letters with single spaces"
+                "line 1 is not 1 to 8 different symbols of 1 to 8 lower-case letters with single spaces"
             }
             Refusal::Kinds => {
-                "line 2 is not mark, name or field for each letter, with at most 2 names"
+                "line 2 is not mark, name or field for each symbol, with at most 2 names"
             }
             Refusal::Grammar => "a formula does not parse",
-            Refusal::Symbol => "a letter is not in line 1 or is of the wrong kind for its place",
-            Refusal::Braces => "braces are empty or have a field twice",
+            Refusal::Symbol => "a symbol is not in line 1 or is of the wrong kind for its place",
+            Refusal::Braces => "braces are empty or have a mode twice",
             Refusal::Closure => "there are over 64 formulas with all parts and expansions",
             Refusal::Lean => "there are over 8 basic formulas",
             Refusal::Naming => "the naming is not below the number of namings",
