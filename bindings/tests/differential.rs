@@ -16,4 +16,10 @@ fn same_outcomes_and_stores() {
     assert_eq!(done.differ, 0, "calls differ, the first of them:\n{faults}");
     assert_eq!(done.seen.calls(), CALLS);
     assert_eq!(done.seen.missing(), [], "outcomes that no call had");
+    let none: [&str; 0] = [];
+    assert_eq!(
+        done.seen.missing_spellings(),
+        none,
+        "spellings that no sheet had"
+    );
 }

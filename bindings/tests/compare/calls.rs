@@ -23,6 +23,8 @@ pub fn ask(
 ) -> Vec<String> {
     let lent = sheet.bytes.clone();
     let read = accept(rules(), &sheet.bytes);
+    let outcome = read.as_ref().map_or_else(|&number| number, |_| 0);
+    seen.count_spellings(&sheet.bytes, outcome);
     let (namings, words) = read
         .as_ref()
         .map_or((1, 1), |accepted| (accepted.namings(), accepted.words()));

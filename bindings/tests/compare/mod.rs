@@ -9,6 +9,7 @@ mod rules;
 mod second;
 mod seen;
 mod sheets;
+mod spelling;
 mod stores;
 mod told;
 

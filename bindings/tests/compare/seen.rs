@@ -1,12 +1,14 @@
 //! Which outcomes the calls had, so that nothing passes for want of calls.
 
+use super::spelling::{self, SPELLINGS};
 use std::collections::BTreeMap;
 use std::fmt;
 
-/// How often each operation had each outcome. An outcome is a refusal's number, or 0.
+/// How often each operation had each outcome, and how many sheets had each spelling. An outcome is a refusal's number, or 0.
 #[derive(Default)]
 pub struct Seen {
     counts: BTreeMap<(&'static str, u8), u64>,
+    spellings: [u64; SPELLINGS.len()],
 }
 
 impl Seen {
@@ -15,10 +17,20 @@ impl Seen {
         *self.counts.entry((operation, number)).or_default() += 1;
     }
 
+    /// A sheet that is asked about, with its outcome.
+    pub fn count_spellings(&mut self, sheet: &[u8], outcome: u8) {
+        for place in spelling::spellings(sheet, outcome) {
+            self.spellings[place] += 1;
+        }
+    }
+
     /// Adds what others have seen.
     pub fn add(&mut self, other: &Seen) {
         for (key, count) in &other.counts {
             *self.counts.entry(*key).or_default() += count;
+        }
+        for (place, count) in other.spellings.iter().enumerate() {
+            self.spellings[place] += count;
         }
     }
 
@@ -32,10 +44,19 @@ impl Seen {
             .filter(|key| !self.counts.contains_key(key))
             .collect()
     }
+
+    /// The spellings that no sheet had.
+    pub fn missing_spellings(&self) -> Vec<&'static str> {
+        let counts = SPELLINGS.iter().zip(self.spellings);
+        counts
+            .filter(|(_, count)| *count == 0)
+            .map(|((spelling, _), _)| *spelling)
+            .collect()
+    }
 }
 
 impl fmt::Display for Seen {
-    /// A line for each operation.
+    /// A line for each operation and for each spelling.
     fn fmt(&self, f: &mut fmt::Formatter<'_>) -> fmt::Result {
         let mut line = "";
         for ((operation, number), count) in &self.counts {
@@ -51,7 +72,15 @@ impl fmt::Display for Seen {
                 _ => write!(f, "{count} refused {number}")?,
             }
         }
-        writeln!(f)
+        writeln!(f)?;
+        for ((spelling, outcome), count) in SPELLINGS.iter().zip(self.spellings) {
+            let sheets = match outcome {
+                0 => "accepted".to_string(),
+                _ => format!("refused {outcome}"),
+            };
+            writeln!(f, "{spelling}: {count} sheets {sheets}")?;
+        }
+        Ok(())
     }
 }
 

@@ -1,8 +1,11 @@
-//! Sheets and snapshots to ask about, from the second checker's generator.
+//! Sheets and snapshots to ask about, from the second checker's generators: the one of document 01, whose symbols are single letters, and
+//! the one of the requests that have landed, most of whose symbols are words.
 
 use super::rules;
+use super::spelling;
 use second_checker::closure::accept;
 use second_checker::generate::{self, Chance, Draft};
+use second_checker::requests::sheets::{self as requested, Wish};
 use second_checker::sheet::Kind;
 
 /// Above this a book or a verdict takes long; a few sheets have more.
@@ -29,12 +32,15 @@ impl Sheet {
         accept(rules(), &self.bytes).map_or(true, |accepted| accepted.namings() <= namings)
     }
 
-    /// A snapshot's text, damaged one time in three.
+    /// A snapshot's text, damaged one time in three; some begin with another line 1.
     pub fn picture(&self, c: &mut Chance) -> Vec<u8> {
-        if c.one_in(3) {
-            generate::damaged_picture(c, &self.symbols, &self.kinds).0
-        } else {
-            generate::picture(c, &self.symbols, &self.kinds).bytes()
+        match c.below(12) {
+            0..=3 => generate::damaged_picture(c, &self.symbols, &self.kinds).0,
+            4 => {
+                let symbols = spelling::other_symbols(c, &self.symbols);
+                generate::picture(c, &symbols, &self.kinds).bytes()
+            }
+            _ => generate::picture(c, &self.symbols, &self.kinds).bytes(),
         }
     }
 }
@@ -43,10 +49,36 @@ impl Sheet {
 pub fn sound(c: &mut Chance) -> Sheet {
     match c.below(1024) {
         0 => many_namings(c),
-        1..=384 => pressed(c),
+        1..=256 => pressed(c),
+        257..=576 => in_words(c),
+        577..=640 => respelt(c),
         _ => {
             let size = c.between(2, 10);
             Sheet::of(&generate::sound(c, size, NAMINGS))
+        }
+    }
+}
+
+/// What is wished of the generator of the requests: the present level, and of it any request.
+fn wish(c: &mut Chance) -> Wish {
+    let level = rules().level;
+    let focus = c.between(1, usize::from(level)) as u8;
+    Wish { level, focus }
+}
+
+/// A sheet that is not refused, mostly with symbols of several letters.
+fn in_words(c: &mut Chance) -> Sheet {
+    let wish = wish(c);
+    Sheet::of(&requested::sound(c, wish))
+}
+
+/// One with much to strike, or any in words, with a symbol of it spelt otherwise in all places.
+fn respelt(c: &mut Chance) -> Sheet {
+    loop {
+        let sheet = if c.one_in(2) { pressed(c) } else { in_words(c) };
+        let sheet = spelling::respelt(c, sheet);
+        if accept(rules(), &sheet.bytes).is_ok() {
+            return sheet;
         }
     }
 }
@@ -82,11 +114,13 @@ fn pressed(c: &mut Chance) -> Sheet {
 /// A sheet with something wrong, mostly.
 pub fn changed(c: &mut Chance) -> Sheet {
     loop {
-        let sheet = match c.below(8) {
+        let sheet = match c.below(16) {
             0..=2 => damaged(c),
-            3..=4 => byte_changed(c),
-            5 => odd(c),
-            _ => large(c),
+            3..=5 => byte_changed(c),
+            6 => odd(c),
+            7..=8 => large(c),
+            9..=11 => damaged_words(c),
+            _ => misspelt(c),
         };
         if sheet.has_at_most(NAMINGS) {
             return sheet;
@@ -108,10 +142,37 @@ fn damaged(c: &mut Chance) -> Sheet {
     Sheet::of(&draft)
 }
 
+/// The same in words, by the damages of the requests too; or one at the border of the closure.
+fn damaged_words(c: &mut Chance) -> Sheet {
+    let wish = wish(c);
+    if c.one_in(8) {
+        let members = c.between(62, 66);
+        return Sheet::of(&requested::with_closure(c, wish, members));
+    }
+    Sheet::of(&requested::damaged(c, wish))
+}
+
+/// Symbols in words that are spelt otherwise in places, have a capital somewhere, or are typed together; or two of these.
+fn misspelt(c: &mut Chance) -> Sheet {
+    let mut sheet = in_words(c);
+    for _ in 0..c.between(1, 2) {
+        sheet = match c.below(3) {
+            0 => spelling::respelt(c, sheet),
+            1 => spelling::capital(c, sheet),
+            _ => spelling::joined(c, sheet),
+        };
+    }
+    sheet
+}
+
 /// One to three bytes put in, taken out, or replaced by others.
 fn byte_changed(c: &mut Chance) -> Sheet {
-    let size = c.between(2, 6);
-    let mut sheet = Sheet::of(&generate::sound(c, size, NAMINGS));
+    let mut sheet = if c.one_in(3) {
+        in_words(c)
+    } else {
+        let size = c.between(2, 6);
+        Sheet::of(&generate::sound(c, size, NAMINGS))
+    };
     for _ in 0..c.between(1, 3) {
         let from = c.below(sheet.bytes.len());
         let to = from + c.below(2);
