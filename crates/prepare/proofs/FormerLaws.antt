@@ -34,5 +34,5 @@ module _ (s : List ℕ) (z : readRefusal s ≡ 0) where
 
   pub tableau-single : Single s → tableauIn s ≡ formerTableau (letterOf s) (isName s) (globalsOf (formulas s)) (goalOf (formulas s))
   tableau-single one = tableau-former (spellOf s) (letterOf s) (length (spellings s)) (sheet-spellings s .few) (λ k h. one-letter (spellOf s k) (one k h)) (isName s) (globalsOf (formulas s)) (goalOf (formulas s))
-      (λ p m. formulas-over s z p (subst (λ l. p ∈ l) split (Memᴰ·append-left m)))
+      (λ p m. formulas-over s z p (subst (λ l. p ∈ l) split (Memᴰ·append-left (goalOf (formulas s) ∷ []) m)))
       (formulas-over s z (goalOf (formulas s)) (subst (λ l. goalOf (formulas s) ∈ l) split (Memᴰ·append-right (globalsOf (formulas s)) (List·Memᴰ·head refl))))
