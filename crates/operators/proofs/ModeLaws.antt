@@ -21,13 +21,10 @@ use Rattle.token.specs.declared.Token.{Token}
 use Rattle.operators.specs.declared.sets.Marked.{Marked}
 use Rattle.operators.specs.declared.braced.Modes.{Modes}
 use Rattle.operators.specs.declared.braced.Modes.the-variants.{Set, No}
-use Rattle.token.specs.declared.Look.{Look}
-use Rattle.token.specs.Token.{signOf, TokenIs, InnerIs}
-use Rattle.token.specs.Signs.{lookAt}
+use Rattle.token.specs.Token.{TokenIs, InnerIs, onOpenBrace, onCloseBrace}
 use Rattle.operators.specs.Modes.{markedOf, withMode, modeFrom, modeAt, moreFrom, moreAfter, modesAt, bracesAt, ModeRead, ModesInside, ModesRead}
 use Rattle.token.proofs.Tokens.{token-past}
 use Rattle.token.proofs.TokensLaws.{closing-same, closing-inner}
-use Rattle.token.proofs.SignLaws.{no-opening, no-closing, sign-at}
 
 -- ---- bits
 pub one-bit : (m : ℕ) → m < 16 → (1 * 2 ^ m) % 2 ^ 32 ≡ 2 ^ m
@@ -79,11 +76,51 @@ module _ (s decl : List ℕ) (more : ℕ → Modes) (mask low at : ℕ) where
   no-more Comma ks o z0 z1 = absurd (miss ks 12 z1 o)
   no-more Other ks o z0 z1 = refl
 
+module _ (a : Unit {0} → Modes) (b : Modes) where
+  pub no-brace : (k : Tok) (ks : List ℕ) → OneOf ks (tagOf the-type k) → T (not (hasKey ks 10)) → onOpenBrace k a b ≡ b
+  no-brace End ks o z0 = refl
+  no-brace Zero ks o z0 = refl
+  no-brace One ks o z0 = refl
+  no-brace (Letter k) ks o z0 = refl
+  no-brace (Capital k) ks o z0 = refl
+  no-brace (Operator m) ks o z0 = refl
+  no-brace (Infix l) ks o z0 = refl
+  no-brace Not ks o z0 = refl
+  no-brace Open ks o z0 = refl
+  no-brace Close ks o z0 = refl
+  no-brace OpenBrace ks o z0 = absurd (miss ks 10 z0 o)
+  no-brace CloseBrace ks o z0 = refl
+  no-brace Comma ks o z0 = refl
+  no-brace Other ks o z0 = refl
+
+module _ (a b : Modes) where
+  pub no-closing : (k : Tok) (ks : List ℕ) → OneOf ks (tagOf the-type k) → T (not (hasKey ks 11)) → onCloseBrace k a b ≡ b
+  no-closing End ks o z0 = refl
+  no-closing Zero ks o z0 = refl
+  no-closing One ks o z0 = refl
+  no-closing (Letter k) ks o z0 = refl
+  no-closing (Capital k) ks o z0 = refl
+  no-closing (Operator m) ks o z0 = refl
+  no-closing (Infix l) ks o z0 = refl
+  no-closing Not ks o z0 = refl
+  no-closing Open ks o z0 = refl
+  no-closing Close ks o z0 = refl
+  no-closing OpenBrace ks o z0 = refl
+  no-closing CloseBrace ks o z0 = absurd (miss ks 11 z0 o)
+  no-closing Comma ks o z0 = refl
+  no-closing Other ks o z0 = refl
+
 abbrev pub but-modes : List ℕ
 but-modes = 0 ∷ 1 ∷ 2 ∷ 5 ∷ 6 ∷ 7 ∷ 8 ∷ 9 ∷ 10 ∷ 11 ∷ 12 ∷ 13 ∷ []
 
 abbrev pub but-more : List ℕ
 but-more = 0 ∷ 1 ∷ 2 ∷ 3 ∷ 4 ∷ 5 ∷ 6 ∷ 7 ∷ 8 ∷ 9 ∷ 10 ∷ 13 ∷ []
+
+abbrev pub but-open-brace : List ℕ
+but-open-brace = 0 ∷ 1 ∷ 2 ∷ 3 ∷ 4 ∷ 5 ∷ 6 ∷ 7 ∷ 8 ∷ 9 ∷ 11 ∷ 12 ∷ 13 ∷ []
+
+abbrev pub but-close-brace : List ℕ
+but-close-brace = 0 ∷ 1 ∷ 2 ∷ 3 ∷ 4 ∷ 5 ∷ 6 ∷ 7 ∷ 8 ∷ 9 ∷ 10 ∷ 12 ∷ 13 ∷ []
 
 -- ---- where a reader of modes goes on
 pub modes-done : {len at e mask low : ℕ} {r : Modes} → ModesInside len at r → r ≡ Set e mask low → (at < e) × ((e ≤ len) × (mask < 65536))
@@ -165,29 +202,22 @@ module _ (s decl : List ℕ) (at mask low : ℕ) where
           modes-read r₁ r mode-is (modes-earlier (length s) at (u .next) r (omega (arith, i .past)) (w .inside)) (λ f h. rw (d, mode-behind .0, ← j .is, k, ← g) (w .meets f (omega (arith, i .past, j .inside))))
 
 -- ---- braces
-module _ (s decl : List ℕ) (at : ℕ) (h : at ≤ length s) (t : Look) (i : t ≡ lookAt s at) where
-  pub braces-none : (t .byte ≡ 123 → ⊥) → (No ≡ bracesAt s decl at) × Unit {0}
+module _ (s decl : List ℕ) (at : ℕ) (t : Token) (i : TokenIs s at t) where
+  pub braces-none : OneOf but-open-brace (tagOf the-type (t .tok)) → (No ≡ bracesAt s decl at) × Unit {0}
   unfolding bracesAt
-  braces-none n = (sym (no-opening _ No s at (rw i at n)), tt)
+  braces-none o = (rw (← i .is) (sym (no-brace _ No (t .tok) but-open-brace o tt)), tt)
 
-  module _ (k : t .byte ≡ 123) where
-    opened : TokenIs s at (record { tok = OpenBrace; next = t .next })
-    unfolding signOf
-    opened = rw i (sign-at s at 123 OpenBrace h (rw i at k) refl (λ e. let z : _≡_ {A = ℕ} 0 1 = cc in omega arith))
+  -- what stands behind the brace, read as outside braces
+  module _ (u : Token) (k : t .tok ≡ OpenBrace) (j : TokenIs s (t .next) u) where
+    pub braces-empty : u .tok ≡ CloseBrace → (Set (u .next) 0 8 ≡ bracesAt s decl at) × ((at < u .next) × ((u .next ≤ length s) × (0 < 65536)))
+    unfolding bracesAt
+    braces-empty c =
+        let a : at < t .next = token-past i k refl in
+        let b : t .next < u .next = token-past j c refl in
+        (rw (← i .is, k, closing-inner s (t .next) (rw (← j .is) c), ← j .is, c) refl, (omega arith, (j .inside, omega arith)))
 
-    pub behind : (at < t .next) × (t .next ≤ length s)
-    behind = (token-past opened refl refl, opened .inside)
-
-    -- what stands behind the brace
-    module _ (u : Look) (j : u ≡ lookAt s (t .next)) where
-      pub braces-empty : u .byte ≡ 125 → (Set (u .next) 0 8 ≡ bracesAt s decl at) × ((at < u .next) × ((u .next ≤ length s) × (0 < 65536)))
-      unfolding bracesAt signOf
-      braces-empty c =
-          let closed : TokenIs s (t .next) (record { tok = CloseBrace; next = u .next }) = rw j (sign-at s (t .next) 125 CloseBrace (behind .1) (rw j at c) refl (λ e. let z : _≡_ {A = ℕ} 0 1 = cc in omega arith)) in
-          let b : t .next < u .next = token-past closed refl refl in
-          (rw (← opened .is, closing-inner s (t .next) (rw (← closed .is) refl), ← closed .is) refl, (omega (arith, behind .0), (closed .inside, omega arith)))
-
-      pub braces-modes : (r : Modes) → (u .byte ≡ 125 → ⊥) → ModesRead s decl (t .next) 0 9 r → (r ≡ bracesAt s decl at) × ModesInside (length s) at r
-      unfolding bracesAt
-      braces-modes r n w =
-          (rw (← opened .is, closing-same _ _ s (t .next), no-closing _ _ s (t .next) (rw j at n)) (w .meets (length s + 1) (omega arith)), modes-earlier (length s) at (t .next) r (behind .0) (w .inside))
+    pub braces-modes : (r : Modes) → OneOf but-close-brace (tagOf the-type (u .tok)) → ModesRead s decl (t .next) 0 9 r → (r ≡ bracesAt s decl at) × ModesInside (length s) at r
+    unfolding bracesAt
+    braces-modes r o w =
+        let a : at < t .next = token-past i k refl in
+        (rw (← i .is, k, closing-same _ _ s (t .next), ← j .is) (w .meets (length s + 1) (omega arith) ∙ sym (no-closing _ _ (u .tok) but-close-brace o tt)), modes-earlier (length s) at (t .next) r a (w .inside))

@@ -8,7 +8,7 @@ use crate::sets::with_mode;
 use spelling::entry;
 use token::Tok;
 use token::Token;
-use token::look_at;
+use token::next_token;
 use token::next_two;
 
 // What reading braces finds: the position after them, the set of modes and the lowest refusal; or no braces.
@@ -78,18 +78,22 @@ pub fn braces(s: &[u8], decl: &[u64], at: usize) -> Modes
     requires { ⌜ at ≤ length (now s) ⌝ }
     ensures { λ r. ⌜ (r ≡ bracesAt (now (s .entry)) (now (decl .entry)) at) × ModesInside (length (now (s .entry))) at r ⌝ }
 {
-    let t = look_at(s, at);
-    if t.byte != 123 {
-        return Modes::No;
-    }
+    let t = next_token(s, at);
+    let k = t.tok;
     let after = t.next;
-    let u = look_at(s, after);
-    if u.byte == 125 {
-        return Modes::Set {
-            next: u.next,
+    let Tok::OpenBrace = k else {
+        return Modes::No;
+    };
+    let u = next_token(s, after);
+    let c = u.tok;
+    let end = u.next;
+    if let Tok::CloseBrace = c {
+        Modes::Set {
+            next: end,
             mask: 0,
             low: 8,
-        };
+        }
+    } else {
+        modes_from(s, decl, after, 0, 9)
     }
-    modes_from(s, decl, after, 0, 9)
 }
