@@ -63,7 +63,7 @@ module _ {tab : List ℕ} {n : ℕ} {tab′ : List ℕ} {a : Added} (b : Bool) (
   pub until-is : (o k : ℕ) → o ≡ k → Answer tab n tab′ (spine (untilForm k b A p q)) (untilForm k b A p q) a → Answer tab n tab′ (spine (untilForm o b A p q)) (untilForm o b A p q) a
   until-is o k e w = subst (λ x. Answer tab n tab′ (spine (untilForm x b A p q)) (untilForm x b A p q) a) (sym e) w
 
--- ---- letters
+-- ---- symbols
 
 module _ {tab : List ℕ} {n : ℕ} (r : Ready tab n) {k : ℕ} (h : k < 65536) where
   pub asks-lit : Ready tab n × ((2 < 16) × ((k < 65536) × ((0 < 256) × ((0 < 256) × Canon n (wordOf 2 k 0 0)))))

@@ -24,7 +24,7 @@ use Rattle.ctl.proofs.ClosureLaws.{closure-saturated, closure-has, clos
 use Rattle.ctl.proofs.LeanOrder.{lean-members, lean-unique}
 use Rattle.ctl.proofs.TypeLaws.{truth-ex, truth-ax}
 
--- its closure has the parts and expansions of its members and the globals; its lean has the letters and the single-mode EX and AX of the closure
+-- its closure has the parts and expansions of its members and the globals; its lean has the symbols and the single-mode EX and AX of the closure
 pub record Proper (S : Tableau) : Type 0 where
   pub part : (p q : Form) → p ∈ S .cl → q ∈ parts p → q ∈ S .cl
   pub expansion : (p : Form) → p ∈ S .cl → expand p ∈ S .cl

@@ -3,7 +3,7 @@ use mathlib.Core.Bool.{Bool, true, false}
 use Rattle.ctl.specs.Formula.{Form}
 use Rattle.ctl.specs.Raw.{Raw, zero, one, sym, neg, and, or, imp, ex, ax, ef, af, eg, ag, eu, au, er, ar}
 
--- The positive form of a formula (true), or of its negation (false): `!` moves inward to letters,
+-- The positive form of a formula (true), or of its negation (false): `!` moves inward to symbols,
 -- exchanging E with A, U with R, `&` with `|`, 0 with 1; `p>q` is `!p|q`.
 unfoldable pub signed : Bool → Raw → Form
 signed true zero = Form.fls

@@ -147,7 +147,7 @@ module _ (mask m b : ℕ) (e : b ≡ 2 ^ m) (fits : mask < 65536) where
 
 -- ---- one mode
 module _ (decl : List ℕ) (mask : ℕ) (t : Token) where
-  -- a letter or a capital, as its entry has it
+  -- a spelling, or one with its first letter in capital, as its entry has it
   pub mode-forward : (k v : ℕ) (m : Marked) → t .tok ≡ Letter k → v ≡ entryIn decl k → (m ≡ withMode mask v 0) × (m .mask < 65536) → ModeRead decl mask t (Set (t .next) (m .mask) (m .low))
   mode-forward k v m e a b = record { is = rw (e, ← a, ← b .0) refl; inside = (refl, b .1) }
 
