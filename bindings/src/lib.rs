@@ -175,17 +175,17 @@ pub fn book<'a>(sheet: &[u8], store: &'a mut [u64]) -> Result<Book<'a>, Refusal>
     })
 }
 
-/// The surviving types under a naming as numbers, each a single time, in an order that is not promised.
+/// The surviving types under a naming as numbers: those with the fewest true lean places first, among equals the smaller number.
 ///
 /// They are the beginning of the store; [`LIST_NUMBERS`] numbers are always enough. The numbers behind those are as they were.
 ///
 /// ```
 /// use lockgraph::{list, Refusal, LIST_NUMBERS};
 ///
-/// let sheet = b"k\nmark\nall k\ngoal 1\n";
+/// let sheet = b"lock waits\nmark field\nall lock>AX{waits}0\ngoal EX{waits}lock\n";
 /// let mut store = [7; LIST_NUMBERS];
-/// assert_eq!(list(sheet, 0, &mut store)?, [1]);
-/// assert_eq!(store[1], 7);
+/// assert_eq!(list(sheet, 0, &mut store)?, [0, 2, 4, 3]);
+/// assert_eq!(store[4], 7);
 ///
 /// assert_eq!(list(sheet, 0, &mut []), Err(Refusal::Store));
 /// # Ok::<(), Refusal>(())

@@ -2,12 +2,16 @@
 //!
 //! Read are the guide's tables, its list of typing errors, and its comments, which nobody sees in the rendered text: `<!-- ANSWER -->` above the block of a sheet or a
 //! snapshot, and `<!-- ANSWER: LINE / LINE / .. -->`, or a sheet's file, where the prose has a sheet without a block. An answer is `open 0 8`, `open`, `unsatisfiable`,
-//! `refused 6`, `accepted` (not refused), or of a snapshot `row 3 2`. Each block with a sheet has to have one.
+//! `refused 6`, `accepted` (not refused), `list 0 2 4 3` (the types under naming 0), or of a snapshot `row 3 2`. Each block with a sheet has to have one.
 
 #[path = "compare/rules.rs"]
 mod rules;
 
 use rules::rules;
+use second_checker::closure::accept;
+use second_checker::formula::print;
+use second_checker::tableau::in_type;
+use std::fmt::Display;
 use std::fs;
 use std::path::Path;
 
@@ -15,6 +19,8 @@ const GUIDE: &str = "docs/SHEETS.md";
 /// The guide's sheet of most snapshots, and the one with a name.
 const DRAWN: &str = "k f\nmark field\ngoal EX{f}k\n";
 const NAMED: &str = "v f\nname field\ngoal 1\n";
+/// The sheet whose list is spelled out.
+const LISTED: &str = "capture ready waits\nmark mark field\nall ready>AX{waits}0\ngoal EX{waits}(capture&ready)\n";
 /// Lines 1 and 2 of the table of formulas, of the list of typing errors, and of the table of typing errors in symbols.
 const WORDS: &str = "capture thumb waits held\nmark mark field field\n";
 const LETTERS: &str = "c t w h\nmark mark field field\n";
@@ -22,12 +28,23 @@ const MORE_WORDS: &str = "capture thumb lock busy waits held\nmark mark mark mar
 /// In the list of typing errors, what was meant begins at this column.
 const MEANT: usize = 37;
 
-/// A sheet, or a snapshot under it with the length of a row, and what the guide says of it.
+/// What is asked of a sheet: its verdict, its list under naming 0, which places are true in a type (also in one that is only there to say what a
+/// place counts), or the row of a snapshot, with the length of the store.
+#[derive(Clone)]
+enum Asked {
+    Verdict,
+    List,
+    Type(usize),
+    Place(usize),
+    Snapshot(String, usize),
+}
+
+/// A sheet, what is asked of it, and what the guide says.
 #[derive(Clone)]
 struct Claim {
     line: usize,
     sheet: String,
-    snapshot: Option<(String, usize)>,
+    asked: Asked,
     answer: String,
 }
 
@@ -55,6 +72,17 @@ fn sheets_are_answered_as_the_guide_says() {
             "no example of {refused}"
         );
     }
+    let spelled = claims.iter().filter_map(|claim| match claim.asked {
+        Asked::Type(type_) => Some(type_ as u16),
+        _ => None,
+    });
+    let spelled = list(&spelled.collect::<Vec<u16>>());
+    assert!(
+        claims
+            .iter()
+            .any(|claim| claim.sheet == LISTED && claim.answer == spelled),
+        "no list is {spelled}, as it is spelled out"
+    );
 }
 
 /// The claim is what was answered, or its beginning.
@@ -68,11 +96,14 @@ fn says(claim: &str, answer: &str) -> bool {
 
 fn proved(claim: &Claim) -> String {
     let sheet = claim.sheet.as_bytes();
-    let answer = match &claim.snapshot {
-        Some((text, length)) => {
+    let answer = match &claim.asked {
+        Asked::Snapshot(text, length) => {
             lockgraph::snapshot(sheet, text.as_bytes(), &mut vec![0; *length]).map(row)
         }
-        None => lockgraph::verdict(sheet).map(|verdict| match verdict {
+        Asked::List => lockgraph::list(sheet, 0, &mut [0; lockgraph::LIST_NUMBERS]).map(list),
+        // The library prints no places.
+        Asked::Type(_) | Asked::Place(_) => return second(claim),
+        Asked::Verdict => lockgraph::verdict(sheet).map(|verdict| match verdict {
             lockgraph::Verdict::Open {
                 naming,
                 type_number,
@@ -85,13 +116,18 @@ fn proved(claim: &Claim) -> String {
 
 fn second(claim: &Claim) -> String {
     let sheet = claim.sheet.as_bytes();
-    let answer = match &claim.snapshot {
-        Some((text, length)) => {
+    let answer = match &claim.asked {
+        Asked::Snapshot(text, length) => {
             let mut bytes = vec![0; *length];
             second_checker::snapshot(rules(), sheet, text.as_bytes(), &mut bytes)
                 .map(|nodes| row(&bytes[..nodes]))
         }
-        None => second_checker::verdict(rules(), sheet, 1).map(|verdict| match verdict {
+        Asked::List => {
+            let mut types = [0; lockgraph::LIST_NUMBERS];
+            second_checker::list(rules(), sheet, 0, &mut types).map(|left| list(&types[..left]))
+        }
+        Asked::Type(type_) | Asked::Place(type_) => places(sheet, *type_),
+        Asked::Verdict => second_checker::verdict(rules(), sheet, 1).map(|verdict| match verdict {
             second_checker::Verdict::Open { naming, type_ } => format!("open {naming} {type_}"),
             second_checker::Verdict::Unsatisfiable => "unsatisfiable".to_string(),
         }),
@@ -99,10 +135,26 @@ fn second(claim: &Claim) -> String {
     answer.unwrap_or_else(|number| format!("refused {number}"))
 }
 
+/// The places that are true in a type, as the second checker prints them.
+fn places(sheet: &[u8], type_: usize) -> Result<String, u8> {
+    let accepted = accept(rules(), sheet)?;
+    let places = accepted.lean.iter().enumerate();
+    let here = places.filter(|(place, _)| in_type(type_, *place));
+    let prints = here.map(|(_, formula)| print(formula, &accepted.sheet.symbols));
+    Ok(words("true", prints))
+}
+
 fn row(bytes: &[u8]) -> String {
-    bytes
-        .iter()
-        .fold("row".to_string(), |row, byte| format!("{row} {byte}"))
+    words("row", bytes)
+}
+
+fn list(types: &[u16]) -> String {
+    words("list", types)
+}
+
+fn words(first: &str, rest: impl IntoIterator<Item = impl Display>) -> String {
+    rest.into_iter()
+        .fold(first.to_string(), |words, word| format!("{words} {word}"))
 }
 
 /// All that the guide claims.
@@ -145,11 +197,16 @@ fn claims(guide: &str) -> Vec<Claim> {
     claims
 }
 
+/// Of a sheet alone: its list where the answer is one, else its verdict.
 fn verdict(at: usize, sheet: String, answer: &str) -> Claim {
     Claim {
         line: at + 1,
         sheet,
-        snapshot: None,
+        asked: if answer.starts_with("list ") {
+            Asked::List
+        } else {
+            Asked::Verdict
+        },
         answer: answer.to_string(),
     }
 }
@@ -179,6 +236,10 @@ fn of_block(at: usize, block: &[&str], said: Option<(&str, Option<&str>)>) -> Ve
     let Some((answer, file)) = said else {
         return vec![];
     };
+    if answer.starts_with("list ") {
+        assert_eq!(after(block, "list "), "0 256", "line {at}: another list");
+        return vec![verdict(at, unescaped(after(block, "sheet ")), answer)];
+    }
     let (sheet, snapshot) = match file {
         Some(file) => (read(file), text),
         None => (
@@ -187,7 +248,7 @@ fn of_block(at: usize, block: &[&str], said: Option<(&str, Option<&str>)>) -> Ve
         ),
     };
     vec![Claim {
-        snapshot: Some((snapshot, 16)),
+        asked: Asked::Snapshot(snapshot, 16),
         ..verdict(at, sheet, answer)
     }]
 }
@@ -219,7 +280,7 @@ fn under(lines: &str, at: usize, formula: &str, answer: &str) -> Claim {
     verdict(at, format!("{lines}goal {formula}\n"), answer)
 }
 
-/// A row of the tables of formulas, of typing errors in symbols, of refusals and of changes. There is no other table.
+/// A row of the tables of formulas, of places, of types, of typing errors in symbols, of refusals and of changes. There is no other table.
 fn of_row(at: usize, heading: &str, row: &str) -> Vec<Claim> {
     let cells: Vec<&str> = row.trim_matches('|').split(" | ").map(str::trim).collect();
     if heading.starts_with("| written |") {
@@ -235,6 +296,14 @@ fn of_row(at: usize, heading: &str, row: &str) -> Vec<Claim> {
             under(MORE_WORDS, at, wrong, &format!("refused {}", cells[1])),
             under(MORE_WORDS, at, meant, "accepted"),
         ];
+    }
+    if heading.starts_with("| place | counts |") {
+        let asked = Asked::Place(cells[1].parse().expect("a number"));
+        return vec![spelled(at, asked, cells[0])];
+    }
+    if heading.starts_with("| type | true places |") {
+        let asked = Asked::Type(cells[0].parse().expect("a number"));
+        return vec![spelled(at, asked, cells[1])];
     }
     if heading.starts_with("| change |") {
         return vec![
@@ -261,11 +330,19 @@ fn of_row(at: usize, heading: &str, row: &str) -> Vec<Claim> {
             DRAWN
         };
         return vec![Claim {
-            snapshot: Some((text, length)),
+            asked: Asked::Snapshot(text, length),
             ..verdict(at, sheet.to_string(), &refused)
         }];
     }
     panic!("line {}: a table of another kind", at + 1)
+}
+
+/// The places of a type of the sheet whose list is spelled out.
+fn spelled(at: usize, asked: Asked, places: &str) -> Claim {
+    Claim {
+        asked,
+        ..verdict(at, LISTED.to_string(), &words("true", spans(places)))
+    }
 }
 
 /// What stands between backquotes.

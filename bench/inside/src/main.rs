@@ -1,6 +1,6 @@
-//! inside SHEET...: for each sheet, the shortest time of a verdict and of naming 0's table, in nanoseconds, in one process, so that
-//! the start of a process does not hide the work. A line for each sheet: `PATH verdict PROVED PLAIN table PROVED PLAIN`. They are asked
-//! first for the verdict and for the tables of the first namings, and must agree.
+//! inside SHEET...: for each sheet, the shortest time of a verdict and of naming 0's table and list, in nanoseconds, in one process, so that
+//! the start of a process does not hide the work. A line for each sheet: `PATH verdict PROVED PLAIN table PROVED PLAIN list PROVED PLAIN`.
+//! They are asked first for the verdict and for the tables and lists of the first namings, and must agree.
 
 mod proved;
 
@@ -23,7 +23,11 @@ fn main() {
             &|| consume(proved::table(black_box(&sheet), 0)),
             &|| consume(plain::table(black_box(&sheet), 0)),
         ]);
-        println!("{path} verdict {a:.0} {b:.0} table {c:.0} {d:.0}");
+        let [e, f] = race([
+            &|| consume(proved::list(black_box(&sheet), 0)),
+            &|| consume(plain::list(black_box(&sheet), 0)),
+        ]);
+        println!("{path} verdict {a:.0} {b:.0} table {c:.0} {d:.0} list {e:.0} {f:.0}");
     }
 }
 
@@ -32,7 +36,7 @@ fn consume<T>(answer: T) {
     black_box(answer);
 }
 
-/// The answers of both are the same, for the verdict and for the table of the first 64 namings.
+/// The answers of both are the same, for the verdict and for the table and the list of the first 64 namings.
 fn agree(sheet: &[u8]) {
     let verdict = plain::verdict(sheet).map(|verdict| match verdict {
         plain::Verdict::Open { naming, least } => [1, naming, least as u64],
@@ -50,6 +54,8 @@ fn agree(sheet: &[u8]) {
         let proved = proved::table(sheet, naming)
             .map(|(words, [_, start, left, rounds, _])| (words, [start, left, rounds]));
         assert_eq!(proved, table.map_err(|refusal| refusal as u8));
+        let list = plain::list(sheet, naming).map_err(|refusal| refusal as u8);
+        assert_eq!(proved::list(sheet, naming), list);
     }
 }
 

@@ -15,6 +15,14 @@ extern "C" {
         second_len: usize,
         out: *mut u64,
     ) -> c_uchar;
+    fn lockgraph_list(
+        sheet: *const u8,
+        sheet_len: usize,
+        naming: u64,
+        store: *mut u16,
+        store_len: usize,
+        out: *mut u64,
+    ) -> c_uchar;
 }
 
 /// The refusal, or 1, naming and type; 2, 0, 0 where it is unsatisfiable.
@@ -44,6 +52,24 @@ pub fn table(sheet: &[u8], naming: u64) -> Result<([u64; 4], [u64; 5]), u8> {
         )
     };
     answer(refusal, (first, out))
+}
+
+/// The refusal, or the standing types in document 02's order.
+pub fn list(sheet: &[u8], naming: u64) -> Result<Vec<u16>, u8> {
+    let mut store = [0; 256];
+    let mut out = [0; 1];
+    // A store of 256 numbers that overlaps nothing, and `out` with the word that the prototype says.
+    let refusal = unsafe {
+        lockgraph_list(
+            sheet.as_ptr(),
+            sheet.len(),
+            naming,
+            store.as_mut_ptr(),
+            store.len(),
+            out.as_mut_ptr(),
+        )
+    };
+    answer(refusal, out).map(|[left]| store[..left as usize].to_vec())
 }
 
 fn answer<T>(refusal: u8, out: T) -> Result<T, u8> {

@@ -70,3 +70,30 @@ pub fn below<const W: usize>(width: usize) -> Family<W> {
         _ => [u64::MAX; W],
     }
 }
+
+/// Bit b of word c is set if b has c ones.
+const LAYERS: [u64; 7] = layers();
+
+const fn layers() -> [u64; 7] {
+    let mut words = [0; 7];
+    let mut b = 0u64;
+    while b < 64 {
+        words[b.count_ones() as usize] |= 1 << b;
+        b += 1;
+    }
+    words
+}
+
+/// Writes the members with so many ones, ascending.
+pub fn layer<const W: usize>(a: &Family<W>, ones: usize, types: &mut Vec<u16>) {
+    for (i, word) in a.iter().enumerate() {
+        let high = i.count_ones() as usize;
+        if high <= ones && ones - high < LAYERS.len() {
+            let mut rest = word & LAYERS[ones - high];
+            while rest != 0 {
+                types.push((i * 64) as u16 + rest.trailing_zeros() as u16);
+                rest &= rest - 1;
+            }
+        }
+    }
+}

@@ -126,6 +126,16 @@ fn settled<const W: usize>(reading: &Reading, naming: u64) -> Table {
 }
 
 /// What the program prints of a sheet.
+/// The standing types of one naming in document 02's order.
+pub fn list(bytes: &[u8], naming: u64) -> Result<Vec<u16>, Refusal> {
+    let table = table(bytes, naming)?;
+    let mut types = Vec::with_capacity(table.left as usize);
+    for ones in 0..=8 {
+        family::layer(&table.words, ones, &mut types);
+    }
+    Ok(types)
+}
+
 pub fn program(bytes: &[u8]) -> Vec<u8> {
     match read(bytes) {
         Err(refusal) => format!("refused {}\n", refusal as u8).into_bytes(),

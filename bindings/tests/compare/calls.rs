@@ -141,24 +141,20 @@ impl Calls<'_> {
             .map(|fault| format!("book {length}: {fault}"))
     }
 
-    /// The order of the numbers is not promised, so they are compared in ascending order. The second checker has each once.
     fn list(&mut self, naming: u64, length: usize) -> Option<String> {
         let expected = self.second.list(naming, length);
         self.seen.count("list", &expected);
         let got = lockgraph::list(self.sheet, naming, self.stores.list.lend(length));
-        let got = got.map(|numbers| numbers.to_vec());
-        let promised = got.clone().unwrap_or_default();
-        unlike(&got, &expected, |numbers, types| {
-            ascending(numbers) == *types
-        })
-        .or_else(|| self.stores.list.fault(&promised))
-        .or_else(|| {
-            let store = self.stores.list.lend(length);
-            told::fault(&mut self.stores.out, &expected, told::count, |out| {
-                raw::list(self.sheet, naming, store, out)
+        let promised = expected.clone().unwrap_or_default();
+        unlike(&got, &expected, |numbers, types| numbers == types)
+            .or_else(|| self.stores.list.fault(&promised))
+            .or_else(|| {
+                let store = self.stores.list.lend(length);
+                told::fault(&mut self.stores.out, &expected, told::count, |out| {
+                    raw::list(self.sheet, naming, store, out)
+                })
             })
-        })
-        .map(|fault| format!("list {naming} {length}: {fault}"))
+            .map(|fault| format!("list {naming} {length}: {fault}"))
     }
 
     fn verdict(&mut self) -> Option<String> {
@@ -250,10 +246,4 @@ fn same_verdict(got: &lockgraph::Verdict, expected: &second_checker::Verdict) ->
         },
         second_checker::Verdict::Unsatisfiable => Unsatisfiable,
     }
-}
-
-fn ascending(numbers: &[u16]) -> Vec<u16> {
-    let mut numbers = numbers.to_vec();
-    numbers.sort_unstable();
-    numbers
 }

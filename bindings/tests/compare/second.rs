@@ -168,9 +168,11 @@ impl<'a> Second<'a> {
     }
 
     fn remembered_list(&mut self, naming: u64, length: usize) -> Result<Vec<u16>, Refusal> {
-        let types = self.striking(naming)?.1.members();
+        let members = self.striking(naming)?.1.members();
+        let mut types: Vec<u16> = members.into_iter().map(|type_| type_ as u16).collect();
+        types.sort_by_key(|&type_| (type_.count_ones(), type_));
         if types.len() <= length {
-            Ok(types.into_iter().map(|type_| type_ as u16).collect())
+            Ok(types)
         } else {
             Err(12)
         }

@@ -2,19 +2,21 @@
 use mathlib.Core.Path.{_≡_, refl, sym, ap, _∙_, subst}
 use mathlib.Core.Logic.{_⊎_, inl, inr, _↔_}
 use mathlib.Core.Bool.{true}
-use mathlib.Core.List.{List, [], _∷_, _++_, map, append-nil, append-assoc, List·Memᴰ·head, List·Memᴰ·tail, List·Memᴰ·cases-cons, List·Memᴰ·append-cases, Memᴰ·cast, Memᴰ·append-left, Memᴰ·append-right}
+use mathlib.Core.List.{List, [], _∷_, _++_, map, append-nil, append-assoc, List·Memᴰ·head, List·Memᴰ·tail, Memᴰ·append-left}
 use Prim.Native.Nat.{ℕ, zero, suc, _+_, _≤_, _<_}
 use native.Mathlib.Omega.{arith}
 use native.Mathlib.Numerals.{add-one}
 use native.Mathlib.Decide.{decLe}
-use lib.ListN.{length, getD, take, drop, set, length-append, length-map, length-set}
+use lib.ListN.{length, getD, take, drop, set, length-map, length-set}
 use lib.Seq.{drop-set-lt, take-suc, take-length, getD-set-same, getD-set-other, length-take-le}
 use Rattle.ctl.specs.Lists.{_∈_}
 use Rattle.ctl.specs.Formula.{Form, tru}
 use Rattle.ctl.specs.Raw.{Raw}
 use Rattle.ctl.specs.Positive.{signed, positive}
-use Rattle.ctl.specs.Closure.{Unique, none, more, closure, closureAll, closureOf}
+use Rattle.ctl.specs.Sorting.{none}
+use Rattle.ctl.specs.Closure.{closure, closureAll, closureOf}
 use Rattle.ctl.proofs.ClosureLaws.{closure-unique, dedupe-in, dedupe-out}
+use Rattle.ctl.proofs.SortLaws.{unique-length}
 use Rattle.members.specs.Members.{Members, forms, formsFrom}
 use Rattle.members.specs.Grown.{Ready, Grows, Done, Answer}
 use Rattle.closure.specs.Closed.{ClosedIs, Closes, Tabled, Placed, beyond, within}
@@ -25,26 +27,6 @@ use Rattle.members.specs.declared.Added.{Added}
 use Rattle.members.specs.declared.Added.the-variants.{At, Full}
 use Rattle.closure.specs.declared.Closed.{Closed}
 use Rattle.closure.specs.declared.Closed.the-variants.{Within, Beyond}
-
--- ---- lists without repetition
-
-split-in : (l : List Form) {p : Form} → p ∈ l → (a : List Form) × (b : List Form) × (l ≡ a ++ (p ∷ b))
-split-in l (List·Memᴰ·head {xs = r} e) = ([], r, ap (λ x. x ∷ r) (sym e))
-split-in l (List·Memᴰ·tail {x = y} {xs = r} m) = let h = split-in r m in (y ∷ h .0, h .1, ap (λ x. y ∷ x) (h .2))
-
--- a list without repetition is no longer than one that has all its members
-pub unique-length : (k l : List Form) → Unique k → k ⊆ l → length k ≤ length l
-unique-length [] l u f = omega arith
-unique-length (p ∷ k) l (more g u) f =
-    let s = split-in l (f p (List·Memᴰ·head refl)) in
-    let a = s .0 in let b = s .1 in
-    let e : l ≡ a ++ (p ∷ b) = s .2 in
-    let h : length k ≤ length (a ++ b) = unique-length k (a ++ b) u (λ q m. without a b q (λ i. g (Memᴰ·cast (sym i) m)) (subst (λ x. q ∈ x) e (f q (List·Memᴰ·tail m)))) in
-    let c : length l ≡ length (a ++ (p ∷ b)) = ap length e in
-    omega (arith, length-append a b, length-append a (p ∷ b))
-  where
-    without : (a b : List Form) (q : Form) → (q ≡ p → ⊥) → q ∈ a ++ (p ∷ b) → q ∈ a ++ b
-    without a b q ne m = elim (List·Memᴰ·append-cases a m) [ inl i ↦ Memᴰ·append-left b i | inr i ↦ elim (List·Memᴰ·cases-cons i) [ inl e ↦ absurd (ne e) | inr j ↦ Memᴰ·append-right a j ] ]
 
 -- ---- the closure of a longer list
 

@@ -6,11 +6,12 @@ use mathlib.Core.List.{List, [], _∷_, _++_, map, List·Memᴰ·head, List·Mem
 use Prim.Native.Nat.{ℕ, _^_}
 use lib.Dec.{T}
 use Rattle.ctl.specs.Lists.{_∈_, put}
+use Rattle.ctl.specs.Sorting.{Unique, none, more}
 use Rattle.ctl.specs.Formula.{Form, tru, fls, lit, nlit, and, or, ex, ax, eu, au, er, ar}
 use Rattle.ctl.specs.Modes.{modes}
 use Rattle.ctl.specs.Equality.{formEq}
 use Rattle.ctl.specs.Expansion.{orAll, andAll, exEach, axEach, expand, parts}
-use Rattle.ctl.specs.Closure.{Saturated, Unique, none, more, elemF, dedupe, orSpine, andSpine, exSpine, axSpine, spine, closureOf, closureAll, closure}
+use Rattle.ctl.specs.Closure.{Saturated, elemF, dedupe, orSpine, andSpine, exSpine, axSpine, spine, closureOf, closureAll, closure}
 use Rattle.ctl.proofs.BoolLaws.{T-true}
 use Rattle.ctl.proofs.ListLaws.{any-in, any-out}
 use Rattle.ctl.proofs.FormulaLaws.{formEq-out, formEq-refl}

@@ -7,6 +7,7 @@ use Prim.Native.Nat.{ℕ, _-_, _≤_, _<_}
 use native.Mathlib.Omega.{arith}
 use borrow.Author.Tests.{le-ltb, lt-ltb}
 use Rattle.ctl.specs.Lists.{_∈_, keep}
+use Rattle.ctl.specs.Sorting.{sort}
 use Rattle.ctl.specs.Formula.{Form, tru, fls, lit, nlit, and, or, ex, ax, eu, au, er, ar}
 use Rattle.ctl.specs.Raw.{Raw}
 use Rattle.ctl.specs.Modes.{modes}
@@ -14,7 +15,7 @@ use Rattle.ctl.specs.Positive.{positive}
 use Rattle.ctl.specs.Print.{capital, printMode, printModes, braces, print}
 use Rattle.ctl.specs.Alphabet.{Declared, DeclaredAll, Over, OverRaw}
 use Rattle.ctl.specs.Closure.{closure}
-use Rattle.ctl.specs.Lean.{printLt, symbolLt, sort, isLetter, isNext, lean}
+use Rattle.ctl.specs.Lean.{printLt, symbolLt, isLetter, isNext, lean}
 use Rattle.ctl.specs.Demand3.{sheetTableau}
 use Rattle.ctl.specs.Former.{formerMode, formerModes, formerBraces, formerPrint, formerLt, formerLean, formerTableau}
 use Rattle.ctl.proofs.ListLaws.{keep-out, map-out}

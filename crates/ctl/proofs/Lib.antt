@@ -8,8 +8,10 @@ pub mod UsesLaws
 pub mod OverLaws
 pub mod PrintLaws
 pub mod SortLaws
+pub mod LexLaws
 pub mod LeanOrder
 pub mod TypeLaws
+pub mod TypeOrder
 pub mod TableauLaws
 pub mod GrowLaws
 pub mod NeedLaws

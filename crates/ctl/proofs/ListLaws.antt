@@ -144,7 +144,7 @@ countFrom-in a (suc n) i h k = go (decLe i a) (countFrom-in (suc a) n i)
     go (yes l) rec = let e : i ≡ a = omega arith in List·Memᴰ·head e
     go (no l) rec = List·Memᴰ·tail (rec (omega arith) (omega arith))
 
-countFrom-out : (a n : ℕ) {i : ℕ} → i ∈ countFrom a n → (a ≤ i) × (i < a + n)
+pub countFrom-out : (a n : ℕ) {i : ℕ} → i ∈ countFrom a n → (a ≤ i) × (i < a + n)
 countFrom-out a zero m = absurd (List·Memᴰ·not-nil m)
 countFrom-out a (suc n) {i} m = go (List·Memᴰ·cases-cons m) (λ k. countFrom-out (suc a) n k)
   where

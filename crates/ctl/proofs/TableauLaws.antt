@@ -8,11 +8,12 @@ use native.Mathlib.Omega.{arith}
 use lib.ListN.{length, getD}
 use lib.Dec.{T, eqb}
 use Rattle.ctl.specs.Lists.{_∈_}
+use Rattle.ctl.specs.Sorting.{Unique, more}
 use Rattle.ctl.specs.Formula.{Form, tru, lit, ex, ax}
 use Rattle.ctl.specs.Modes.{single}
 use Rattle.ctl.specs.Equality.{tag, num, right, formEq}
 use Rattle.ctl.specs.Expansion.{expand, parts}
-use Rattle.ctl.specs.Closure.{Unique, more, closure}
+use Rattle.ctl.specs.Closure.{closure}
 use Rattle.ctl.specs.Lean.{isLetter, isNext, lean}
 use Rattle.ctl.specs.Types.{inType, indexOf, holds, truth}
 use Rattle.ctl.specs.Tableau.{Tableau, tableauOf}

@@ -13,7 +13,7 @@ use Rattle.ctl.specs.Elimination.{families}
 use Rattle.ctl.specs.Links.{linkBy}
 use Rattle.ctl.specs.Tableau.{Tableau, namings, starts, startTypes}
 use Rattle.ctl.specs.Verdict.{MeetsIn, ClosedIn, familyOf, roundsOf, survivingTypes, HasGoal, goalTypes, Verdict, unsatisfiable, open′, verdictOver, verdict, Opens}
-use Rattle.ctl.proofs.ListLaws.{keep-in, keep-out, below-in, Ascending, ascending-count, ascending-keep, ascending-least}
+use Rattle.ctl.proofs.ListLaws.{keep-in, keep-out, below-in, below-out, Ascending, ascending-count, ascending-keep, ascending-least}
 use Rattle.ctl.proofs.EliminationLaws
 use Rattle.ctl.proofs.EliminationLaws.{survivors-ascend, survives-iff, survivors-is, survivors-stays, rounds-least}
 
@@ -51,18 +51,27 @@ module _ (S : Tableau) (r : ℕ) where
   unfolding roundsOf survivingTypes
   rounds-few = EliminationLaws.rounds-few (S .cl) (truth (S .ln)) (linkBy (S .cl) (S .ln)) (startTypes S r)
 
+  -- each surviving type is listed once, and is a set of lean places
+  pub surviving-ascend : Ascending 0 (survivingTypes S r)
+  unfolding survivingTypes startTypes
+  surviving-ascend =
+      survivors-ascend (S .cl) (truth (S .ln)) (linkBy (S .cl) (S .ln)) (startTypes S r)
+      (ascending-keep (starts S r) 0 (below (2 ^ length (S .ln))) (ascending-count 0 (2 ^ length (S .ln))))
+
+  pub surviving-below : (t : ℕ) → t ∈ survivingTypes S r → t < 2 ^ length (S .ln)
+  unfolding startTypes
+  surviving-below t m =
+      let c = surviving-iff t .0 m in
+      below-out (2 ^ length (S .ln)) (keep-out (starts S r) (below (2 ^ length (S .ln))) (c .1 .within t (c .2)) .0)
+
 -- ---- the verdict
 
 module _ (S : Tableau) (goal : Form) where
-  ascending-start : (r : ℕ) → Ascending 0 (startTypes S r)
-  unfolding startTypes
-  ascending-start r = ascending-keep (starts S r) 0 (below (2 ^ length (S .ln))) (ascending-count 0 (2 ^ length (S .ln)))
-
   ascending-goal : (r : ℕ) → Ascending 0 (goalTypes S goal r)
   unfolding goalTypes
   ascending-goal r =
       ascending-keep (λ t. truth (S .ln) t goal) 0 (survivingTypes S r)
-      (unfold survivingTypes in survivors-ascend (S .cl) (truth (S .ln)) (linkBy (S .cl) (S .ln)) (startTypes S r) (ascending-start r))
+      (surviving-ascend S r)
 
   over-none : (rs : List ℕ) → verdictOver S goal rs ≡ unsatisfiable → (r : ℕ) → r ∈ rs → goalTypes S goal r ≡ []
   unfolding verdictOver

@@ -15,11 +15,6 @@ pub record Saturated (Q : Form → Type 0) : Type 0 where
   pub part : (p q : Form) → Q p → q ∈ parts p → Q q
   pub expansion : (p : Form) → Q p → Q (expand p)
 
--- no formula stands in the list twice
-pub data Unique : List Form → Type 0 where
-  none : Unique []
-  more : {p : Form} {l : List Form} → (p ∈ l → ⊥) → Unique l → Unique (p ∷ l)
-
 -- ---- and how it is computed
 
 unfoldable pub elemF : Form → List Form → Bool

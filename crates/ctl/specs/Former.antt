@@ -5,12 +5,13 @@ use Prim.Native.Nat.{ℕ, _-_}
 use lib.ListN.{length}
 use lib.Dec.{eqb, ltb}
 use Rattle.ctl.specs.Lists.{keep}
+use Rattle.ctl.specs.Sorting.{sort}
 use Rattle.ctl.specs.Formula.{Form, tru, fls, lit, nlit, and, or, ex, ax, eu, au, er, ar}
 use Rattle.ctl.specs.Modes.{modes}
 use Rattle.ctl.specs.Raw.{Raw}
 use Rattle.ctl.specs.Positive.{positive, signed}
 use Rattle.ctl.specs.Closure.{closure}
-use Rattle.ctl.specs.Lean.{bytesLt, symbolLt, sort, isLetter, isNext}
+use Rattle.ctl.specs.Lean.{bytesLt, symbolLt, isLetter, isNext}
 use Rattle.ctl.specs.Tableau.{Tableau}
 
 -- `letter` gives each symbol's letter

@@ -1,4 +1,5 @@
 pub mod Lists
+pub mod Sorting
 pub mod Numbers
 pub mod Formula
 pub mod Modes
@@ -13,6 +14,7 @@ pub mod Alphabet
 pub mod Closure
 pub mod Lean
 pub mod Types
+pub mod TypeOrder
 pub mod Links
 pub mod Tableau
 pub mod ClosedFamily

@@ -4,6 +4,7 @@ use mathlib.Core.List.{List, _++_}
 use Prim.Native.Nat.{ℕ, _*_, _/_, _^_, _≤_, _<_, max}
 use native.Mathlib.Omega.{arith}
 use lib.ListN.{length, drop, length-map, replicate}
+use lib.Seq.{length-take-le}
 use Rattle.ctl.specs.Positive.{positive}
 use Rattle.ctl.specs.Tableau.{Tableau, namings, startTypes}
 use Rattle.ctl.specs.Verdict as Ctl
@@ -76,6 +77,12 @@ module _ {s : List ℕ} {u : Setup} (x : SetUp s u) (z : u .refusal ≡ 0) where
   lean-length : length (S .ln) ≡ length (leanIn u)
   unfolding leanForms
   lean-length = ap length (framed .matches .lean) ∙ length-map (leanIn u) (form (membersIn u))
+
+  pub width-is : u .width ≡ length (S .ln)
+  width-is = sym (length-take-le (u .width) (u .lean) lean-within) ∙ sym lean-length
+
+  pub short-lean : u .width ≤ 60
+  short-lean = let e = width-is in let l = lean-length in let h = framed .sound .leans .short in omega arith
 
   pub words-are : u .words ≡ wordsIn s
   unfolding wordsIn

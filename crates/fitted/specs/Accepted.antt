@@ -1,8 +1,10 @@
--- What a sheet that is not refused has: its words, its namings, its surviving types, and its verdict; and what a table and a book of it hold. Assumes nothing.
+-- What a sheet that is not refused has: its words, its namings, its surviving types, and its verdict; and what a table, a book and a list of it hold. Assumes nothing.
 use mathlib.Core.List.{List, _++_}
 use Prim.Native.Nat.{ℕ, _*_, _/_, _^_, max}
 use lib.ListN.{length, drop}
 use Rattle.ctl.specs.Lists.{elem}
+use Rattle.ctl.specs.Sorting.{sort}
+use Rattle.ctl.specs.TypeOrder.{fewestFirst}
 use Rattle.ctl.specs.Positive.{positive}
 use Rattle.ctl.specs.Tableau.{namings, startTypes}
 use Rattle.ctl.specs.Verdict as Ctl
@@ -24,6 +26,10 @@ namingsIn s = namings (tableauIn s)
 -- the surviving types (document 01's standing types) under naming r
 abbrev pub survivorsIn : List ℕ → ℕ → List ℕ
 survivorsIn s r = survivingTypes (tableauIn s) r
+
+-- in the order in which they are listed: the fewest true lean places first, among equals the smaller number
+unfoldable pub listedIn : List ℕ → ℕ → List ℕ
+listedIn s r = sort (fewestFirst (length (tableauIn s .ln))) (survivorsIn s r)
 
 -- a store with them in its first W words, type j as bit j mod 64 of word j div 64, and its later words as they were
 unfoldable pub holding : List ℕ → ℕ → List ℕ → List ℕ

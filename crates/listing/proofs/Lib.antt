@@ -1,2 +1,5 @@
-pub mod Gathering
-pub mod ListedLaws
+pub mod LayerWords
+pub mod WordNumbers
+pub mod Writing
+pub mod Layering
+pub mod Layers

@@ -1,11 +1,12 @@
-// List: the surviving types under one naming, as numbers in a lent store. Assumes nothing.
+// List: the surviving types under one naming, as numbers in a lent store, in document 02's order. Assumes nothing.
 use fitted::tables::fitted_table;
 use outcomes::ListAnswer;
 use outcomes::refusals::naming_refusal;
 use outcomes::refusals::or_else;
 ghost use Rattle.outcomes.specs.Outcomes.{ListIs};
 
-// The surviving types under a naming as numbers at the beginning of a store.
+// The surviving types under a naming as numbers at the beginning of a store: the fewest true lean places first, among equals the smaller
+// number.
 pub fn list(sheet: &[u8], naming: u64, store: &mut [u16]) -> ListAnswer
     ensures { λ o. ⌜ ListIs (now (sheet .entry)) naming (now (store .entry)) o (now (store .exit)) ⌝ }
 {
@@ -15,12 +16,13 @@ pub fn list(sheet: &[u8], naming: u64, store: &mut [u16]) -> ListAnswer
         return ListAnswer::Refused(k);
     }
     let words = u.words;
+    let lean = u.width;
     let mut first = [0u64; 4];
     let mut second = [0u64; 4];
     let c = fitted_table(sheet, u, naming, &mut first, &mut second);
     if store.len() < c.left {
         return ListAnswer::Refused(12);
     }
-    let n = listing::list_members(&first, words, store);
+    let n = listing::list_types(&first, words, lean, store);
     ListAnswer::Done { left: n }
 }

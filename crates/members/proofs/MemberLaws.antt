@@ -11,7 +11,7 @@ use Rattle.ctl.specs.Lists.{_∈_}
 use Rattle.ctl.specs.Formula.{Form, tru, fls, lit, nlit, and, or, ex, ax, eu, au, er, ar}
 use Rattle.ctl.proofs.TableauLaws.{index-place}
 use Rattle.ctl.specs.Types.{indexOf}
-use Rattle.ctl.specs.Closure.{Unique, none, more}
+use Rattle.ctl.specs.Sorting.{Unique, none, more}
 use Rattle.members.specs.Members.{Canon, Members, argW, c-and, c-ar, c-au, c-ax, c-er, c-eu, c-ex, c-fls, c-lit, c-nlit, c-or, c-tru, formBy, formOf, forms, formsFrom, leftW, rightW, tagW, wordOf}
 
 -- ---- a word and its parts: the tag, the symbol or the set of modes, and the places of the operands

@@ -5,7 +5,7 @@ use Prim.Native.Nat.{ℕ, _≤_, _<_}
 use lib.ListN.{length, getD, take, drop}
 use Rattle.ctl.specs.Lists.{_∈_}
 use Rattle.ctl.specs.Formula.{Form, tru}
-use Rattle.ctl.specs.Closure.{Unique}
+use Rattle.ctl.specs.Sorting.{Unique}
 use Rattle.members.specs.Members.{Members, forms}
 use Rattle.members.specs.declared.Added.{Added}
 use Rattle.members.specs.declared.Added.the-variants.{At, Full}

@@ -3,7 +3,7 @@ use mathlib.Core.List.{List, [], _∷_, _++_}
 use Prim.Native.Nat.{ℕ, _+_, _*_, _/_, _%_, _≤_, _<_}
 use lib.ListN.{length, getD}
 use Rattle.ctl.specs.Formula.{Form, tru, fls, lit, nlit, and, or, ex, ax, eu, au, er, ar}
-use Rattle.ctl.specs.Closure.{Unique}
+use Rattle.ctl.specs.Sorting.{Unique}
 
 -- a word and its parts: the tag, the symbol or the set of modes, and the places of the operands (ex and ax have theirs left)
 abbrev pub wordOf : ℕ → ℕ → ℕ → ℕ → ℕ

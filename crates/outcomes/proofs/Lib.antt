@@ -4,5 +4,6 @@ pub mod BookingLaws
 pub mod SnapshotLaws
 pub mod VerdictLaws
 pub mod ListingLaws
+pub mod ListOrder
 pub mod DemandLaws
 pub mod Halves

@@ -1,25 +1,36 @@
 -- What List answers and leaves at each of its returns. Assumes nothing.
-use mathlib.Core.Path.{_≡_, refl, sym, ap, _∙_, subst}
-use mathlib.Core.List.{List}
-use Prim.Native.Nat.{ℕ, zero, suc, _≤_, _<_}
-use native.Mathlib.Omega.{arith}
+use mathlib.Core.Path.{_≡_, refl, sym, ap, ap₂, _∙_, subst}
 use mathlib.Core.Bool.{cond}
-use lib.ListN.{length, take, drop}
+use mathlib.Core.List.{List, _++_}
+use Prim.Native.Nat.{ℕ, zero, suc, _^_, _≤_, _<_}
+use native.Mathlib.Omega.{arith}
+use lib.ListN.{length, drop, replicate}
 use borrow.Author.Tests.{le-ltb, lt-ltb}
-use Rattle.ctl.proofs.ListLaws.{Ascending}
+use Rattle.ctl.specs.Lists.{_∈_, elem}
+use Rattle.ctl.specs.Sorting.{sort}
+use Rattle.ctl.specs.TypeOrder.{fewestFirst}
+use Rattle.ctl.proofs.VerdictLaws.{surviving-below}
+use Rattle.wordset.specs.Words.{packed}
 use Rattle.truth.specs.Blocks.{listOf}
-use Rattle.truth.proofs.ListWords.{list-ascend}
-use Rattle.listing.specs.Listed.{EachOnce, Listed}
-use Rattle.listing.proofs.ListedLaws.{ascending-once, listed-front, listed-rest}
+use Rattle.listing.specs.Listed.{Listed}
+use Rattle.listing.proofs.Writing.{listed-as, listed-front}
 use Rattle.reader.specs.Reader.{refusalOf}
+use Rattle.prepare.specs.Prepared.{tableauIn}
+use Rattle.frame.specs.SetUp.{SetUp}
+use Rattle.frame.specs.declared.Setup.{Setup}
+use Rattle.fitted.specs.Accepted.{listedIn, namingsIn, survivorsIn, wordsIn}
+use Rattle.fitted.proofs.AcceptedLaws.{few-words, short-lean, store-lists, width-is}
 use Rattle.outcomes.specs.declared.ListAnswer.the-variants.{Done, Refused}
-use Rattle.outcomes.specs.Outcomes.{ListIs, listAnswer, listRefusal, namingRefusal, orElse, storeRefusal}
-use Rattle.fitted.specs.Accepted.{namingsIn, survivorsIn}
+use Rattle.outcomes.specs.Outcomes.{ListIs, listAnswer, listRefusal, listStore, namingRefusal, orElse, storeRefusal}
 use Rattle.outcomes.proofs.RefusalLaws.{else-first, else-next, else-none, refused-case}
+use Rattle.outcomes.proofs.ListOrder.{listed-length}
 
 -- a refusal leaves the store alone
 refused-by : {s : List ℕ} {r k : ℕ} (d : List ℕ) → k ≡ listRefusal s r (length d) → (k ≡ 0 → ⊥) → ListIs s r d (Refused k) d
-refused-by {s} {r} {k} d e n = record { answer = refused-case Refused (listAnswer s r) (λ q. refl) k n ∙ ap (listAnswer s r) e; untouched = λ m. refl; listed = λ z. absurd (n (e ∙ z)); rest = λ z. refl }
+refused-by {s} {r} {k} d e n = record {
+  answer = refused-case Refused (listAnswer s r) (λ q. refl) k n ∙ ap (listAnswer s r) e;
+  store-holds = refused-case (λ q. d) (λ q. listStore s r q d) (λ q. refl) k n ∙ ap (λ q. listStore s r q d) e;
+}
 
 -- List's number, from the sheet's and the naming's
 module _ (s : List ℕ) (r : ℕ) {k : ℕ} (e : k ≡ orElse (refusalOf s) (namingRefusal (namingsIn s) r)) where
@@ -45,20 +56,32 @@ module _ (s : List ℕ) (r : ℕ) {k : ℕ} (e : k ≡ orElse (refusalOf s) (nam
   list-short d {left} z e h =
       refused-by d (sym (number-store (length d) z ∙ ap (λ b. cond b 12 0) (lt-ltb (length d) (length (survivorsIn s r)) (omega arith)))) (λ i. omega arith)
 
-  pub list-done : (d : List ℕ) (w : ℕ) (ws : List ℕ) {left n : ℕ} {d′ : List ℕ} → k ≡ 0 → left ≡ length (survivorsIn s r) → left ≤ length d → listOf w ws ≡ survivorsIn s r → Listed (listOf w ws) d d′ n → ListIs s r d (Done n) d′
-  list-done d w ws {left} {n} {d′} z e h i x =
+  pub list-done : (d : List ℕ) {left n : ℕ} {d′ : List ℕ} → k ≡ 0 → left ≡ length (survivorsIn s r) → left ≤ length d → Listed (listedIn s r) d 0 d′ n → ListIs s r d (Done n) d′
+  list-done d {left} {n} {d′} z e h x =
       let none : listRefusal s r (length d) ≡ 0 = number-store (length d) z ∙ ap (λ b. cond b 12 0) (le-ltb (length d) (length (survivorsIn s r)) (omega arith)) in
-      let many : n ≡ length (survivorsIn s r) = x .many ∙ ap length i in
-      let front : take (length (survivorsIn s r)) d′ ≡ survivorsIn s r = ap (λ q. take q d′) (sym many) ∙ listed-front x ∙ i in
-      let once : EachOnce (survivorsIn s r) (survivorsIn s r) = ascending-once (survivorsIn s r) (subst (Ascending 0) i (list-ascend w ws)) in
+      let many : length (listedIn s r) ≡ length (survivorsIn s r) = listed-length s r in
+      let front = listed-front x (omega arith) in
       record {
-        answer = ap Done many ∙ ap (listAnswer s r) (sym none);
-        untouched = λ m. absurd (m none);
-        listed = λ y. subst (EachOnce (survivorsIn s r)) (sym front) once;
-        rest = λ y. ap (λ q. drop q d′) (sym many) ∙ listed-rest x ∙ ap (λ q. drop q d) many;
+        answer = ap Done (front .0 ∙ many) ∙ ap (listAnswer s r) (sym none);
+        store-holds = front .1 ∙ ap (λ q. listedIn s r ++ drop q d) many ∙ ap (λ q. listStore s r q d) (sym none);
       }
 
--- ---- room in the store
+-- ---- what is asked of the set-up and the table's words, and what they give
 
-pub list-room : (ws d : List ℕ) {w left : ℕ} {types : List ℕ} → w ≤ 4 → length ws ≡ 4 → listOf w ws ≡ types → left ≡ length types → left ≤ length d → (w ≤ length ws) × (w ≤ 1024) × (length (listOf w ws) ≤ length d)
-list-room ws d {w} a b e f h = (omega arith, omega arith, subst (λ l. length l ≤ length d) (sym e) (omega arith))
+module _ {s : List ℕ} {u : Setup} (x : SetUp s u) (z : u .refusal ≡ 0) (r : ℕ) {ws : List ℕ} (long : length ws ≡ 4) (e : ws ≡ packed (wordsIn s) (λ t. elem t (survivorsIn s r)) (replicate 4 0)) where
+  types : listOf (u .words) ws ≡ survivorsIn s r
+  types = store-lists x z r (replicate 4 0) ws (few-words x z) e
+
+  pub list-asked : (d : List ℕ) {left : ℕ} → left ≡ length (survivorsIn s r) → left ≤ length d
+      → ((u .words ≤ length ws) × (u .words ≤ 1024) × (u .width ≤ 64) × (length (listOf (u .words) ws) ≤ length d)) × ((t : ℕ) → t ∈ listOf (u .words) ws → t < 2 ^ u .width)
+  list-asked d f h =
+      let w = few-words x z in
+      let n = short-lean x z in
+      let l = ap length types in (
+        (omega arith, omega arith, omega arith, omega arith),
+        λ t m. subst (λ i. t < 2 ^ i) (sym (width-is x z)) (surviving-below (tableauIn s) r t (subst (λ k. t ∈ k) types m)),
+      )
+
+  pub list-given : {d d′ : List ℕ} {n : ℕ} → Listed (sort (fewestFirst (u .width)) (listOf (u .words) ws)) d 0 d′ n → Listed (listedIn s r) d 0 d′ n
+  unfolding listedIn
+  list-given {d} {d′} {n} l = listed-as (ap₂ (λ i k. sort (fewestFirst i) k) (width-is x z) types) l

@@ -1,2 +1,3 @@
 pub mod Outcomes
 pub mod Demands
+pub mod Former

@@ -15,8 +15,7 @@ use Rattle.sheet.specs.Reading.{formulas, globalsOf, goalOf}
 use Rattle.reader.specs.Reader.{refusalOf}
 use Rattle.prepare.specs.Prepared.{tableauIn}
 use Rattle.evaluator.specs.Rows.{rowOf}
-use Rattle.fitted.specs.Accepted.{bookIn, holding, namingsIn, survivorsIn, verdictIn, wordsIn}
-use Rattle.listing.specs.Listed.{EachOnce}
+use Rattle.fitted.specs.Accepted.{bookIn, holding, listedIn, namingsIn, survivorsIn, verdictIn, wordsIn}
 use Rattle.snapshot_text.specs.Lines.{lineStore}
 use Rattle.snapshot.specs.Read.{readSnapshot}
 use Rattle.snapshot_text.specs.Store.{ofStore}
@@ -105,12 +104,14 @@ abbrev pub listAnswer : List ℕ → ℕ → ℕ → ListAnswer
 listAnswer s r zero = Listing.Done (length (survivorsIn s r))
 listAnswer s r (suc k) = Listing.Refused (suc k)
 
--- The only promise that does not say all: the surviving types stand at the beginning of the store, each a single time and nothing else, and in which ORDER is left open
+-- the store afterwards, where the refusal is k: the surviving types in their order, and the rest as it was
+abbrev pub listStore : List ℕ → ℕ → ℕ → List ℕ → List ℕ
+listStore s r zero d = listedIn s r ++ drop (length (survivorsIn s r)) d
+listStore s r (suc k) d = d
+
 pub record ListIs (s : List ℕ) (r : ℕ) (d : List ℕ) (o : ListAnswer) (d′ : List ℕ) : Type 0 where
   pub answer : o ≡ listAnswer s r (listRefusal s r (length d))
-  pub untouched : (listRefusal s r (length d) ≡ 0 → ⊥) → d′ ≡ d
-  pub listed : listRefusal s r (length d) ≡ 0 → EachOnce (survivorsIn s r) (take (length (survivorsIn s r)) d′)
-  pub rest : listRefusal s r (length d) ≡ 0 → drop (length (survivorsIn s r)) d′ ≡ drop (length (survivorsIn s r)) d
+  pub store-holds : d′ ≡ listStore s r (listRefusal s r (length d)) d
 
 -- ---- Verdict
 

@@ -14,7 +14,8 @@ use Rattle.ctl.specs.Equality.{tag, num}
 use Rattle.ctl.specs.Modes.{single}
 use Rattle.ctl.specs.Raw.{Raw}
 use Rattle.ctl.specs.Positive.{positive}
-use Rattle.ctl.specs.Closure.{Unique, more, closure}
+use Rattle.ctl.specs.Sorting.{Unique, more}
+use Rattle.ctl.specs.Closure.{closure}
 use Rattle.ctl.specs.Lean.{isLetter, isNext, lean}
 use Rattle.ctl.specs.Tableau.{Tableau, tableauOf, namePlaces, otherPlaces}
 use Rattle.ctl.specs.Demand3.{sheetTableau}

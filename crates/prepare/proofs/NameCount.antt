@@ -12,15 +12,15 @@ use Rattle.ctl.specs.Lists.{_∈_, below, countFrom, keep, put}
 use Rattle.ctl.specs.Formula.{Form, tru, fls, lit, nlit, and, or, ex, ax, eu, au, er, ar}
 use Rattle.ctl.specs.Equality.{tag, num}
 use Rattle.ctl.specs.Tableau.{Tableau, isName, namePlaces, otherPlaces, tableauOf}
-use Rattle.ctl.specs.Closure.{Unique, closure}
+use Rattle.ctl.specs.Sorting.{Unique}
+use Rattle.ctl.specs.Closure.{closure}
 use Rattle.ctl.specs.Positive.{positive}
 use Rattle.ctl.specs.Demand3.{sheetTableau}
 use Rattle.ctl.proofs.BoolLaws.{and-0, and-1, and-both}
 use Rattle.ctl.proofs.ClosureLaws.{closure-unique}
 use Rattle.ctl.proofs.LeanOrder.{lean-unique}
 use Rattle.ctl.proofs.ListLaws.{below-in, below-out, keep-in, keep-length, keep-out, length-count, map-in}
-use Rattle.ctl.proofs.SortLaws.{keep-unique}
-use Rattle.closure.proofs.CloseLaws.{unique-length}
+use Rattle.ctl.proofs.SortLaws.{keep-unique, unique-length}
 use Rattle.head.specs.Head.{kindOf, kindRight, kinds, kindsFrom, kindsOf, nameCount}
 use Rattle.sheet.specs.Reading.{formulas, globalsOf, goalOf, spellOf}
 use Rattle.prepare.specs.Prepared.{tableauIn}

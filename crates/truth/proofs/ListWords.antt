@@ -88,7 +88,7 @@ list-packed w d x fam h a b e =
 
 -- ---- how many
 
-count-keep : (P : ℕ → Bool) (a n : ℕ) → countBelow n (λ j. P (a + j)) ≡ length (keep P (countFrom a n))
+pub count-keep : (P : ℕ → Bool) (a n : ℕ) → countBelow n (λ j. P (a + j)) ≡ length (keep P (countFrom a n))
 unfolding countBelow
 count-keep P a zero = refl
 count-keep P a (suc n) =

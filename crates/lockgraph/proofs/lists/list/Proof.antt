@@ -1,8 +1,7 @@
 -- `list` meets its contract. Assumes nothing.
-use lib.ListN.{replicate}
-use Rattle.fitted.proofs.AcceptedLaws.{few-words, four, store-lists}
+use Rattle.fitted.proofs.AcceptedLaws.{four}
 use Rattle.outcomes.proofs.RefusalLaws.{naming-number, set-up-zero}
-use Rattle.outcomes.proofs.ListingLaws.{list-done, list-refused, list-room, list-short}
+use Rattle.outcomes.proofs.ListingLaws.{list-asked, list-done, list-given, list-refused, list-short}
 use borrow.Author.Needs.{needs}
 use Rattle.lockgraph.proofs.lists.list.Statement.{statement}
 use Rattle.lockgraph.proofs.lists.list.Tie as tie
@@ -46,34 +45,33 @@ returns-2 c =
     let b10 = b9 .before in
     list-short _ _ (naming-number (b10 .set-up .ensures) _ (b8 .or-else .ensures) (b9 .naming-refusal .ensures)) _ (b7 .if1 .left) (b4 .fitted-table .ensures .left-over) (c .if2 .taken)
 
-slice-aggregate-list-members : tie.Need-slice-aggregate-list-members
-slice-aggregate-list-members c = search needs
+slice-aggregate-list-types : tie.Need-slice-aggregate-list-types
+slice-aggregate-list-types c = search needs
 
-list-members-requires : tie.Need-list-members-requires
-list-members-requires c κs =
-    let b2 = c .before .before in
-    let b6 = b2 .before .before .before .before in
+list-types-requires : tie.Need-list-types-requires
+list-types-requires c κs =
+    let b6 = c .before .before .before .before .before .before in
     let b9 = b6 .before .before .before in
     let b10 = b9 .before in
     let b11 = b10 .before in
     let b12 = b11 .before in
-    let b15 = b12 .before .before .before in
-    list-room (b6 .fitted-table .last .1 .1 .1 .0) (b15 .args .store .now) (few-words (b12 .set-up .ensures) (set-up-zero (b12 .set-up .result .refusal) (b11 .naming-refusal .result) (b10 .or-else .ensures) (b9 .if1 .left))) (b6 .fitted-table .kept .1 .1 .1 .0) (store-lists (b12 .set-up .ensures) (set-up-zero (b12 .set-up .result .refusal) (b11 .naming-refusal .result) (b10 .or-else .ensures) (b9 .if1 .left)) _ (replicate 4 0) (b6 .fitted-table .last .1 .1 .1 .0) (few-words (b12 .set-up .ensures) (set-up-zero (b12 .set-up .result .refusal) (b11 .naming-refusal .result) (b10 .or-else .ensures) (b9 .if1 .left))) (b6 .fitted-table .ensures .first-holds)) (b6 .fitted-table .ensures .left-over) (b2 .if2 .left)
+    let z = set-up-zero (b12 .set-up .result .refusal) (b11 .naming-refusal .result) (b10 .or-else .ensures) (b9 .if1 .left) in
+    list-asked (b12 .set-up .ensures) z _ (b6 .fitted-table .kept .1 .1 .1 .0) (b6 .fitted-table .ensures .first-holds) (b12 .before .before .before .args .store .now) (b6 .fitted-table .ensures .left-over) (c .before .before .if2 .left)
 
 same-length : tie.Need-same-length
 same-length c = search needs
 
 returns-3 : tie.Need-returns-3
 returns-3 c =
-    let b2 = c .before .before in
-    let b5 = b2 .before .before .before in
+    let b5 = c .before .before .before .before .before in
     let b9 = b5 .before .before .before .before in
     let b12 = b9 .before .before .before in
     let b13 = b12 .before in
     let b14 = b13 .before in
     let b15 = b14 .before in
-    let b18 = b15 .before .before .before in
-    list-done _ _ (naming-number (b15 .set-up .ensures) _ (b13 .or-else .ensures) (b14 .naming-refusal .ensures)) (b18 .args .store .now) (b15 .set-up .result .words) (b9 .fitted-table .last .1 .1 .1 .0) (b12 .if1 .left) (b9 .fitted-table .ensures .left-over) (b5 .if2 .left) (store-lists (b15 .set-up .ensures) (set-up-zero (b15 .set-up .result .refusal) (b14 .naming-refusal .result) (b13 .or-else .ensures) (b12 .if1 .left)) _ (replicate 4 0) (b9 .fitted-table .last .1 .1 .1 .0) (few-words (b15 .set-up .ensures) (set-up-zero (b15 .set-up .result .refusal) (b14 .naming-refusal .result) (b13 .or-else .ensures) (b12 .if1 .left))) (b9 .fitted-table .ensures .first-holds)) (b2 .list-members .ensures)
+    let z = set-up-zero (b15 .set-up .result .refusal) (b14 .naming-refusal .result) (b13 .or-else .ensures) (b12 .if1 .left) in
+    list-done _ _ (naming-number (b15 .set-up .ensures) _ (b13 .or-else .ensures) (b14 .naming-refusal .ensures)) _ (b12 .if1 .left) (b9 .fitted-table .ensures .left-over) (b5 .if2 .left)
+    (list-given (b15 .set-up .ensures) z _ (b9 .fitted-table .kept .1 .1 .1 .0) (b9 .fitted-table .ensures .first-holds) (c .before .before .list-types .ensures))
 
 pub list-spec : {M : Type 1} → statement M
 list-spec =
@@ -87,7 +85,7 @@ list-spec =
     slice-aggregate-fitted-table-2
     fitted-table-requires
     returns-2
-    slice-aggregate-list-members
-    list-members-requires
+    slice-aggregate-list-types
+    list-types-requires
     same-length
     returns-3)
