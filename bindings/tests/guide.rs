@@ -20,7 +20,8 @@ const GUIDE: &str = "docs/SHEETS.md";
 const DRAWN: &str = "k f\nmark field\ngoal EX{f}k\n";
 const NAMED: &str = "v f\nname field\ngoal 1\n";
 /// The sheet whose list is spelled out.
-const LISTED: &str = "capture ready waits\nmark mark field\nall ready>AX{waits}0\ngoal EX{waits}(capture&ready)\n";
+const LISTED: &str =
+    "capture ready waits\nmark mark field\nall ready>AX{waits}0\ngoal EX{waits}(capture&ready)\n";
 /// Lines 1 and 2 of the table of formulas, of the list of typing errors, and of the table of typing errors in symbols.
 const WORDS: &str = "capture thumb waits held\nmark mark field field\n";
 const LETTERS: &str = "c t w h\nmark mark field field\n";
