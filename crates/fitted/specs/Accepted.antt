@@ -29,6 +29,7 @@ survivorsIn s r = survivingTypes (tableauIn s) r
 
 -- in the order in which they are listed: the fewest true lean places first, among equals the smaller number
 unfoldable pub listedIn : List ℕ → ℕ → List ℕ
+unfolding sort fewestFirst
 listedIn s r = sort (fewestFirst (length (tableauIn s .ln))) (survivorsIn s r)
 
 -- a store with them in its first W words, type j as bit j mod 64 of word j div 64, and its later words as they were

@@ -1,5 +1,5 @@
--- Document 01's proved graphs, from the bytes of each sheet, through the definitions that the contracts cite, to what Verdict and Table answer, which types survive, and the
--- rows of snapshots: one table, computed. Assumes nothing.
+-- Document 01's proved graphs, from the bytes of each sheet, through the definitions that the contracts cite, to what Verdict and Table answer, which types survive, as a set and as
+-- List lists them, and the rows of snapshots: one table, computed. Assumes nothing.
 use mathlib.Core.Path.{_≡_, refl}
 use mathlib.Core.List.{List, [], _∷_, _++_, map}
 use Prim.Native.Nat.{ℕ}
@@ -38,15 +38,16 @@ use Rattle.outcomes.specs.declared.TableAnswer.the-variants.{Done}
 use Rattle.outcomes.specs.declared.VerdictAnswer.{VerdictAnswer}
 use Rattle.outcomes.specs.declared.VerdictAnswer.the-variants.{Open, Unsatisfiable}
 use Rattle.outcomes.specs.Outcomes.{snapshotRefusal, snapshotRow, tableAnswer, tableRefusal, verdictOf}
-use Rattle.fitted.specs.Accepted.{survivorsIn, verdictIn, wordsIn}
+use Rattle.fitted.specs.Accepted.{listedIn, survivorsIn, verdictIn, wordsIn}
 
 -- a sheet, and what document 01 says of it: the verdict; what Table answers with stores of 4 words under a naming (how many words; types at start, left, rounds); the types that survive
--- under a naming; the row of a snapshot's text
+-- under a naming; the same in document 02's order; the row of a snapshot's text
 record Graph : Type 0 where
   sheet : List ℕ
   verdict : List VerdictAnswer
   tables : List (ℕ × TableAnswer)
   survivors : List (ℕ × List ℕ)
+  lists : List (ℕ × List ℕ)
   rows : List (List ℕ × List ℕ)
 
 -- the lines of a sheet with one goal and no globals, under `k f`, `mark field`
@@ -54,13 +55,13 @@ abbrev under : String → List ℕ
 under goal = ascii "k f\nmark field\ngoal " ++ ascii goal ++ ascii "\n"
 
 abbrev graph : List ℕ → VerdictAnswer → Graph
-graph s v = record { sheet = s; verdict = v ∷ []; tables = []; survivors = []; rows = [] }
+graph s v = record { sheet = s; verdict = v ∷ []; tables = []; survivors = []; lists = []; rows = [] }
 
 abbrev graphs : List Graph
 graphs =
-    record { sheet = under "EX{f}k"; verdict = Open 0 2 ∷ []; tables = (0, Done 1 4 4 0) ∷ []; survivors = []; rows = (ascii "k f\n0 2\n1 0\n", 3 ∷ 2 ∷ []) ∷ [] }
+    record { sheet = under "EX{f}k"; verdict = Open 0 2 ∷ []; tables = (0, Done 1 4 4 0) ∷ []; survivors = []; lists = []; rows = (ascii "k f\n0 2\n1 0\n", 3 ∷ 2 ∷ []) ∷ [] }
     ∷ graph (under "1") (Open 0 0)
-    ∷ record { sheet = under "0"; verdict = Unsatisfiable ∷ []; tables = (0, Done 1 1 1 0) ∷ []; survivors = []; rows = [] }
+    ∷ record { sheet = under "0"; verdict = Unsatisfiable ∷ []; tables = (0, Done 1 1 1 0) ∷ []; survivors = []; lists = []; rows = [] }
     ∷ graph (under "EX{f}k&EX{f}!k") Unsatisfiable
     ∷ graph (under "EX{F}k&EX{F}!k") (Open 0 6)
     ∷ record {
@@ -68,13 +69,14 @@ graphs =
       verdict = Unsatisfiable ∷ [];
       tables = (0, Done 1 16 6 1) ∷ (10, Done 1 17 6 2) ∷ [];
       survivors = (10, 0 ∷ 1 ∷ 4 ∷ 5 ∷ 16 ∷ 17 ∷ []) ∷ [];
+      lists = (10, 0 ∷ 1 ∷ 4 ∷ 16 ∷ 5 ∷ 17 ∷ []) ∷ [];
       rows = [];
     }
     ∷ graph (under "AF{f}k&AX{f}0&!k") Unsatisfiable
     ∷ graph (under "A{f,F}(1Uk)&!k&EX{f}!k") Unsatisfiable
     ∷ graph (ascii "v w f g\nname name field field\ngoal EX{f}(v&w)&EX{g}(v&!w)\n") (Open 0 12)
-    ∷ record { sheet = under "EG{f}!k"; verdict = []; tables = []; survivors = []; rows = (ascii "k f\n0 0\n", 3 ∷ []) ∷ [] }
-    ∷ record { sheet = under "AF{f}k"; verdict = []; tables = []; survivors = []; rows = (ascii "k f\n0 1\n", 2 ∷ []) ∷ (ascii "k f\n0 0\n", 2 ∷ []) ∷ [] }
+    ∷ record { sheet = under "EG{f}!k"; verdict = []; tables = []; survivors = []; lists = []; rows = (ascii "k f\n0 0\n", 3 ∷ []) ∷ [] }
+    ∷ record { sheet = under "AF{f}k"; verdict = []; tables = []; survivors = []; lists = []; rows = (ascii "k f\n0 1\n", 2 ∷ []) ∷ (ascii "k f\n0 0\n", 2 ∷ []) ∷ [] }
     ∷ []
 
 -- the row that Snapshot leaves of one of n bytes
@@ -82,12 +84,13 @@ abbrev rowLeft : List ℕ → List ℕ → ℕ → List ℕ
 rowLeft s t n = snapshotRow s t (snapshotRefusal s t n) (replicate n 0)
 
 computed : Graph → Graph
-unfolding andSpine axSpine closure closureAll closureOf dedupe elemF exSpine orSpine spine sheetTableau expand parts bytesLt isNext lean printLt symbolLt modes single signed namings startTypes roundsOf survivingTypes verdict begins ended has same split anyLong byteWrong declare declared endsRight kindOf kindRight kindsFrom kindsOf layoutRight lengthWrong nameCount hasText nameRight namesFrom namesOf startsRight textsOf letterRun spelled word entryFrom entryIn pairOf signOf runFront plainFront aloneFront headFront frontBy tokenBy skip spaces tokenAt innerAt choiceOf bracesAt markedOf modeAt modesAt withMode formulaAt letterLow lineAt pathFrom unitAt trees globalsOf goalOf bracesWrong conditions grammarWrong symbolsWrong refusalWithin tableRefusal verdictIn verdictOf wordsIn step leads row rounds tableEU tableAU sat rowOf ofStore entryAt byteStep run starts lineCount lineStore lineFits fits twice judged readSnapshot snapshotRefusal allBelow anyBelow countBelow
+unfolding andSpine axSpine closure closureAll closureOf dedupe elemF exSpine orSpine spine sheetTableau expand parts bytesLt isNext lean printLt symbolLt modes single signed namings startTypes roundsOf survivingTypes verdict begins ended has same split anyLong byteWrong declare declared endsRight kindOf kindRight kindsFrom kindsOf layoutRight lengthWrong nameCount hasText nameRight namesFrom namesOf startsRight textsOf letterRun spelled word entryFrom entryIn pairOf signOf runFront plainFront aloneFront headFront frontBy tokenBy skip spaces tokenAt innerAt choiceOf bracesAt markedOf modeAt modesAt withMode formulaAt letterLow lineAt pathFrom unitAt trees globalsOf goalOf bracesWrong conditions grammarWrong symbolsWrong refusalWithin tableRefusal listedIn verdictIn verdictOf wordsIn step leads row rounds tableEU tableAU sat rowOf ofStore entryAt byteStep run starts lineCount lineStore lineFits fits twice judged readSnapshot snapshotRefusal allBelow anyBelow countBelow
 computed g = record {
   sheet = g .sheet;
   verdict = map (λ v. verdictOf (g .sheet)) (g .verdict);
   tables = map (λ t. (t .0, tableAnswer (g .sheet) (t .0) (tableRefusal (g .sheet) (t .0) 4 4))) (g .tables);
   survivors = map (λ t. (t .0, survivorsIn (g .sheet) (t .0))) (g .survivors);
+  lists = map (λ t. (t .0, listedIn (g .sheet) (t .0))) (g .lists);
   rows = map (λ t. (t .0, rowLeft (g .sheet) (t .0) (length (t .1)))) (g .rows);
 }
 
