@@ -27,12 +27,12 @@ namingsIn s = namings (tableauIn s)
 abbrev pub survivorsIn : List ℕ → ℕ → List ℕ
 survivorsIn s r = survivingTypes (tableauIn s) r
 
--- in the order in which they are listed: the fewest true lean places first, among equals the smaller number
+-- the same in the order in which they are listed: the fewest true lean places first, among equals the smaller number
 unfoldable pub listedIn : List ℕ → ℕ → List ℕ
 unfolding sort fewestFirst
 listedIn s r = sort (fewestFirst (length (tableauIn s .ln))) (survivorsIn s r)
 
--- a store with them in its first W words, type j as bit j mod 64 of word j div 64, and its later words as they were
+-- a store with the surviving types in its first W words, type j as bit j mod 64 of word j div 64, and its later words as they were
 unfoldable pub holding : List ℕ → ℕ → List ℕ → List ℕ
 unfolding wordsIn
 holding s r d = packed (wordsIn s) (λ t. elem t (survivorsIn s r)) d
