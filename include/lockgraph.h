@@ -12,7 +12,8 @@
  * What a caller gets:
  * - the caller owns every store. No function keeps a pointer, allocates, or has a state: calls from several threads are free where they write to different stores;
  * - the result is 0, or the number of the refusal below, the lowest that applies. After a refusal every store is as it was, `out` too;
- * - otherwise `out` and the stores are as described, and the elements that are not described are as they were.
+ * - otherwise `out` and the stores are as described, and the elements that are not described are as they were. Nothing is left open: the arguments and what the stores
+ *   held before decide every element.
  *
  * Every sheet:   1 length (empty, over 1,024 bytes, or a line over 200)   2 byte   3 layout   4 names   5 kinds   6 grammar   7 symbol   8 braces   9 closure   10 lean
  * table, list:   11 naming (not below the number of namings)

@@ -1,4 +1,4 @@
--- Document 01's promise of List, which left the order open. Nothing but `list-former` (proofs/ListOrder) cites it. Assumes nothing.
+-- Document 01's promise of List, which left the order open. Only proofs/ListOrder cites it. Assumes nothing.
 use mathlib.Core.Path.{_≡_}
 use mathlib.Core.List.{List}
 use Prim.Native.Nat.{ℕ}
