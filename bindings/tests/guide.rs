@@ -2,7 +2,8 @@
 //!
 //! Read are the guide's tables, its list of typing errors, and its comments, which nobody sees in the rendered text: `<!-- ANSWER -->` above the block of a sheet or a
 //! snapshot, and `<!-- ANSWER: LINE / LINE / .. -->`, or a sheet's file, where the prose has a sheet without a block. An answer is `open 0 8`, `open`, `unsatisfiable`,
-//! `refused 6`, `accepted` (not refused), `list 0 2 4 3` (the types under naming 0), or of a snapshot `row 3 2`. Each block with a sheet has to have one.
+//! `refused 6`, `accepted` (not refused), `list 0 2 4 3` (the types under naming 0), `true k EX{f}k` (the places), or of a snapshot `row 3 2`. Each block with a sheet
+//! has to have one.
 
 #[path = "compare/rules.rs"]
 mod rules;
@@ -29,14 +30,14 @@ const MORE_WORDS: &str = "capture thumb lock busy waits held\nmark mark mark mar
 /// In the list of typing errors, what was meant begins at this column.
 const MEANT: usize = 37;
 
-/// What is asked of a sheet: its verdict, its list under naming 0, which places are true in a type (also in one that is only there to say what a
-/// place counts), or the row of a snapshot, with the length of the store.
+/// What is asked of a sheet: its verdict, its list under naming 0, the places that are true in a type of a list, or in a number that has some
+/// of them, or the row of a snapshot, with the length of the store.
 #[derive(Clone)]
 enum Asked {
     Verdict,
     List,
     Type(usize),
-    Place(usize),
+    Places(usize),
     Snapshot(String, usize),
 }
 
@@ -103,7 +104,7 @@ fn proved(claim: &Claim) -> String {
         }
         Asked::List => lockgraph::list(sheet, 0, &mut [0; lockgraph::LIST_NUMBERS]).map(list),
         // The library prints no places.
-        Asked::Type(_) | Asked::Place(_) => return second(claim),
+        Asked::Type(_) | Asked::Places(_) => return second(claim),
         Asked::Verdict => lockgraph::verdict(sheet).map(|verdict| match verdict {
             lockgraph::Verdict::Open {
                 naming,
@@ -127,7 +128,7 @@ fn second(claim: &Claim) -> String {
             let mut types = [0; lockgraph::LIST_NUMBERS];
             second_checker::list(rules(), sheet, 0, &mut types).map(|left| list(&types[..left]))
         }
-        Asked::Type(type_) | Asked::Place(type_) => places(sheet, *type_),
+        Asked::Type(type_) | Asked::Places(type_) => places(sheet, *type_),
         Asked::Verdict => second_checker::verdict(rules(), sheet, 1).map(|verdict| match verdict {
             second_checker::Verdict::Open { naming, type_ } => format!("open {naming} {type_}"),
             second_checker::Verdict::Unsatisfiable => "unsatisfiable".to_string(),
@@ -198,16 +199,17 @@ fn claims(guide: &str) -> Vec<Claim> {
     claims
 }
 
-/// Of a sheet alone: its list where the answer is one, else its verdict.
+/// Of a sheet alone: its list or its places where the answer is such, else its verdict.
 fn verdict(at: usize, sheet: String, answer: &str) -> Claim {
+    let asked = match answer.split(' ').next() {
+        Some("list") => Asked::List,
+        Some("true") => Asked::Places(usize::MAX),
+        _ => Asked::Verdict,
+    };
     Claim {
         line: at + 1,
         sheet,
-        asked: if answer.starts_with("list ") {
-            Asked::List
-        } else {
-            Asked::Verdict
-        },
+        asked,
         answer: answer.to_string(),
     }
 }
@@ -299,7 +301,7 @@ fn of_row(at: usize, heading: &str, row: &str) -> Vec<Claim> {
         ];
     }
     if heading.starts_with("| place | counts |") {
-        let asked = Asked::Place(cells[1].parse().expect("a number"));
+        let asked = Asked::Places(cells[1].parse().expect("a number"));
         return vec![spelled(at, asked, cells[0])];
     }
     if heading.starts_with("| type | true places |") {
