@@ -44,8 +44,8 @@ uint8_t lockgraph_table(const uint8_t *sheet, size_t sheet_len, uint64_t naming,
  * out, 2 words: how many namings there are; W. */
 uint8_t lockgraph_book(const uint8_t *sheet, size_t sheet_len, uint64_t *store, size_t store_len, uint64_t out[2]);
 
-/* The surviving types under a naming as numbers at the beginning of the store: those with the fewest true lean places (bits) first, among equals the smaller number. 256
- * numbers are always enough.
+/* The surviving types under a naming as numbers at the beginning of the store, each once: those with the fewest true lean places (bits) first, among equals the smaller
+ * number. 256 numbers are always enough.
  * out, 1 word: how many they are. */
 uint8_t lockgraph_list(const uint8_t *sheet, size_t sheet_len, uint64_t naming, uint16_t *store, size_t store_len, uint64_t out[1]);
 

@@ -175,7 +175,7 @@ pub fn book<'a>(sheet: &[u8], store: &'a mut [u64]) -> Result<Book<'a>, Refusal>
     })
 }
 
-/// The surviving types under a naming as numbers: those with the fewest true lean places first, among equals the smaller number.
+/// The surviving types under a naming as numbers, each once: those with the fewest true lean places first, among equals the smaller number.
 ///
 /// They are the beginning of the store; [`LIST_NUMBERS`] numbers are always enough. The numbers behind those are as they were.
 ///

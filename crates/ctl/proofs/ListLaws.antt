@@ -93,6 +93,15 @@ module _ {ℓ} {A : Type ℓ} where
   keep-same p q [] f = refl
   keep-same p q (x ∷ xs) f = rw (f x (List·Memᴰ·head refl), keep-same p q xs (λ y m. f y (List·Memᴰ·tail m)))
 
+  -- kept by one test, and then by another
+  pub keep-twice : (p q : A → Bool) (l : List A) → keep q (keep p l) ≡ keep (λ x. p x && q x) l
+  keep-twice p q [] = refl
+  keep-twice p q (x ∷ l) = go (p x) (keep-twice p q l)
+    where
+      go : (b : Bool) → keep q (keep p l) ≡ keep (λ y. p y && q y) l → keep q (put b x (keep p l)) ≡ put (b && q x) x (keep (λ y. p y && q y) l)
+      go true e = ap (put (q x) x) e
+      go false e = e
+
   pub any-same : (p q : A → Bool) (l : List A) → ((x : A) → x ∈ l → p x ≡ q x) → anyOf p l ≡ anyOf q l
   any-same p q [] f = refl
   any-same p q (x ∷ xs) f = rw (f x (List·Memᴰ·head refl), any-same p q xs (λ y m. f y (List·Memᴰ·tail m)))
@@ -228,21 +237,6 @@ ascending-least a (y ∷ l) s x m = go (List·Memᴰ·cases-cons m) (ascending-l
     go (inl e) rec = let k = s .0 in omega arith
     go (inr i) rec = let k = s .0 in let h = rec i in omega arith
 
--- ascending lists with the same elements are the same
-pub ascending-same : (a : ℕ) (k l : List ℕ) → Ascending a k → Ascending a l → ((x : ℕ) → x ∈ k → x ∈ l) → ((x : ℕ) → x ∈ l → x ∈ k) → k ≡ l
-ascending-same a [] [] s t f g = refl
-ascending-same a [] (y ∷ l) s t f g = absurd (List·Memᴰ·not-nil (g y (List·Memᴰ·head refl)))
-ascending-same a (x ∷ k) [] s t f g = absurd (List·Memᴰ·not-nil (f x (List·Memᴰ·head refl)))
-ascending-same a (x ∷ k) (y ∷ l) s t f g =
-    let lo : y ≤ x = ascending-least y (y ∷ l) (omega arith, t .1) x (f x (List·Memᴰ·head refl)) in
-    let hi : x ≤ y = ascending-least x (x ∷ k) (omega arith, s .1) y (g y (List·Memᴰ·head refl)) in
-    let e : x ≡ y = omega arith in
-    ap₂ _∷_ e (ascending-same (suc x) k l (s .1) (subst (λ z. Ascending (suc z) l) (sym e) (t .1)) (λ z m. rest x k z y l (s .1) e m (f z (List·Memᴰ·tail m))) (λ z m. rest y l z x k (t .1) (sym e) m (g z (List·Memᴰ·tail m))))
-  where
-    rest : (u : ℕ) (us : List ℕ) (z v : ℕ) (vs : List ℕ) → Ascending (suc u) us → u ≡ v → z ∈ us → z ∈ v ∷ vs → z ∈ vs
-    rest u us z v vs o e m (List·Memᴰ·head i) = absurd (let h = ascending-least (suc u) us o z m in omega arith)
-    rest u us z v vs o e m (List·Memᴰ·tail i) = i
-
 -- what a test keeps, as a test
 pub elem-keep : (p : ℕ → Bool) (l : List ℕ) (x : ℕ) → elem x (keep p l) ≡ (elem x l && p x)
 elem-keep p l x = both-ways (elem x (keep p l)) (elem x l && p x)
@@ -256,23 +250,17 @@ getD-in d [] k h = absurd (omega arith)
 getD-in d (x ∷ l) zero h = List·Memᴰ·head refl
 getD-in d (x ∷ l) (suc k) h = List·Memᴰ·tail (getD-in d l k (omega arith))
 
--- ---- what is kept of the numbers below k, and of one more
+-- ---- what is kept of numbers up to one, and of those from there on
 
-count-snoc : (a n : ℕ) → countFrom a (suc n) ≡ countFrom a n ++ ((a + n) ∷ [])
-count-snoc a zero = ap (λ i. i ∷ []) (omega arith)
-count-snoc a (suc n) = ap (λ l. a ∷ l) (count-snoc (suc a) n ∙ ap (λ i. countFrom (suc a) n ++ (i ∷ [])) (omega arith))
+put-append : (b : Bool) (x : ℕ) (k l : List ℕ) → put b x k ++ l ≡ put b x (k ++ l)
+put-append true x k l = refl
+put-append false x k l = refl
 
-keep-snoc : (P : ℕ → Bool) (l : List ℕ) (x : ℕ) → keep P (l ++ (x ∷ [])) ≡ keep P l ++ put (P x) x []
-keep-snoc P [] x = refl
-keep-snoc P (y ∷ l) x = go (P y) (keep-snoc P l x)
-  where
-    go : (b : Bool) → keep P (l ++ (x ∷ [])) ≡ keep P l ++ put (P x) x [] → put b y (keep P (l ++ (x ∷ []))) ≡ put b y (keep P l) ++ put (P x) x []
-    go true e = ap (λ k. y ∷ k) e
-    go false e = e
+pub keep-count : (P : ℕ → Bool) (a m n b k : ℕ) → b ≡ a + m → k ≡ m + n → keep P (countFrom a m) ++ keep P (countFrom b n) ≡ keep P (countFrom a k)
+keep-count P a zero n b k e f = let i : b ≡ a = omega arith in let j : n ≡ k = omega arith in rw (i, j) refl
+keep-count P a (suc m) n b zero e f = absurd (omega arith)
+keep-count P a (suc m) n b (suc k) e f =
+    put-append (P a) a (keep P (countFrom (suc a) m)) (keep P (countFrom b n)) ∙ ap (put (P a) a) (keep-count P (suc a) m n b k (omega arith) (omega arith))
 
 pub keep-next : (P : ℕ → Bool) (k : ℕ) (b : Bool) → b ≡ P k → keep P (below (k + 1)) ≡ keep P (below k) ++ put b k []
-keep-next P k b e =
-    ap (λ i. keep P (below i)) (let h : k + 1 ≡ suc k = omega arith in h)
-    ∙ ap (keep P) (count-snoc 0 k ∙ ap (λ i. below k ++ (i ∷ [])) (let h : 0 + k ≡ k = omega arith in h))
-    ∙ keep-snoc P (below k) k
-    ∙ ap (λ c. keep P (below k) ++ put c k []) (sym e)
+keep-next P k b e = sym (keep-count P 0 k 1 k (k + 1) (omega arith) refl) ∙ ap (λ c. keep P (below k) ++ put c k []) (sym e)

@@ -1,25 +1,18 @@
 -- The first of the types of a set that pass a test is the least one of them. Assumes nothing.
 use mathlib.Core.Path.{_≡_, refl, sym, ap, _∙_}
 use mathlib.Core.Bool.{Bool, true, false, _&&_, true≢false}
-use mathlib.Core.List.{List, [], _∷_}
+use mathlib.Core.List.{List}
 use mathlib.Core.Logic.{_⊎_, inl, inr}
 use Prim.Native.Nat.{ℕ, zero, suc, _+_, _*_, _≤_, _<_}
 use native.Mathlib.Omega.{arith}
 use Rattle.ctl.specs.Lists.{keep, put, countFrom, below}
+use Rattle.ctl.proofs.ListLaws.{keep-twice}
 use Rattle.wordset.proofs.BelowLaws.{same-or, any-false, least-holds, least-below}
 use Rattle.wordset.specs.Below.{anyBelow, least}
 use Rattle.wordset.specs.Words.{member}
 use Rattle.goal.specs.declared.Found.the-variants.{At, Nothing}
 use Rattle.truth.specs.Blocks.{listOf}
 use Rattle.goal.specs.Goals.{firstOf}
-
-keep-twice : (P Q : ℕ → Bool) (l : List ℕ) → keep Q (keep P l) ≡ keep (λ t. P t && Q t) l
-keep-twice P Q [] = refl
-keep-twice P Q (x ∷ l) = go (P x) (keep-twice P Q l)
-  where
-    go : (b : Bool) → keep Q (keep P l) ≡ keep (λ t. P t && Q t) l → keep Q (put b x (keep P l)) ≡ put (b && Q x) x (keep (λ t. P t && Q t) l)
-    go true e = ap (put (Q x) x) e
-    go false e = e
 
 module _ (P : ℕ → Bool) where
   first-from : (a n t : ℕ) → a ≤ t → t < a + n → P t ≡ true → ((k : ℕ) → k < t → P k ≡ false) → firstOf (keep P (countFrom a n)) ≡ At t

@@ -11,7 +11,8 @@ use lib.ListN.{length, getD, drop}
 use Rattle.ctl.specs.Elimination as E
 use Rattle.ctl.proofs.BoolLaws.{T-cast, T-cast⁻}
 use Rattle.ctl.proofs.EliminationLaws.{families-ascend, round-fails, rounds-only, survivors-only}
-use Rattle.ctl.proofs.ListLaws.{Ascending, ascending-same, elem-in, elem-out, keep-all, keep-full, keep-out}
+use Rattle.ctl.proofs.ListLaws.{Ascending, elem-in, elem-out, keep-all, keep-full, keep-out}
+use Rattle.ctl.proofs.SortLaws.{ascending-same}
 use Rattle.ctl.specs.Lists.{_∈_, elem, keep}
 use Rattle.wordset.proofs.BelowLaws.{all-elim, all-intro, top}
 use Rattle.wordset.proofs.CompareLaws.{beq-refl, beq-true}

@@ -12,7 +12,8 @@ use borrow.Author.Tests.{lt-ltb, ltb-true, eq-eqb}
 use Rattle.ctl.specs.Elimination as E
 use Rattle.ctl.specs.Lists as L
 use Rattle.ctl.proofs.BoolLaws.{T-cast, T-cast⁻, T-true, and-0, and-1, and-in, both-ways, true-T}
-use Rattle.ctl.proofs.ListLaws.{ascending-count, ascending-keep, ascending-same, below-in, below-out, keep-in, keep-out}
+use Rattle.ctl.proofs.ListLaws.{ascending-count, ascending-keep, below-in, below-out, keep-in, keep-out}
+use Rattle.ctl.proofs.SortLaws.{ascending-same}
 use Rattle.ctl.proofs.NumberLaws.{number-lt, number-place, same-places}
 use Rattle.ctl.proofs.OrderLaws.{rounds-over, survivors-over}
 use Rattle.ctl.specs.Links.{linkBy}

@@ -10,7 +10,8 @@ use lib.Dec.{T}
 use lib.ListN.{length, getD}
 use Rattle.ctl.specs.Lists as L
 use Rattle.ctl.proofs.BoolLaws.{T-cast, T-cast⁻, and-0, and-1, and-in, both-ways}
-use Rattle.ctl.proofs.ListLaws.{any-in, any-out, below-in, below-out, elem-in, elem-out, keep-in, keep-out, Ascending, ascending-count, ascending-keep, ascending-same, keep-length}
+use Rattle.ctl.proofs.ListLaws.{any-in, any-out, below-in, below-out, elem-in, elem-out, keep-in, keep-out, Ascending, ascending-count, ascending-keep, keep-length}
+use Rattle.ctl.proofs.SortLaws.{ascending-same}
 use Rattle.ctl.specs.Lists.{_∈_, below, elem, keep, countFrom, put}
 use Rattle.wordset.proofs.BelowLaws.{count-ext, count-front}
 use Rattle.wordset.specs.Below.{anyBelow, allBelow, countBelow, one}
