@@ -11,16 +11,17 @@
  *
  * What a caller gets:
  * - the caller owns every store. No function keeps a pointer, allocates, or has a state: calls from several threads are free where they write to different stores;
- * - the result is 0, or the number of the refusal below, the lowest that applies. After a refusal every store is as it was, `out` too;
+ * - the result is 0, or the number of the refusal below, the first that applies: they are asked in the order below. After a refusal every store is as it was, `out` too;
  * - otherwise `out` and the stores are as described, and the elements that are not described are as they were. Nothing is left open: the arguments and what the stores
  *   held before decide every element.
  *
  * Every sheet:   1 length (empty, over 1,024 bytes, or a line over 200)   2 byte   3 layout   4 names   5 kinds   6 grammar   7 symbol   8 braces   9 closure   10 lean
  * table, list:   11 naming (not below the number of namings)
  * table, book, list:   12 store (too short)
- * snapshot:   13 snapshot   14 entry   15 twice   16 row (below, at lockgraph_snapshot)
+ * snapshot:   13 snapshot   14 entry   15 twice   17 held   16 row (below, at lockgraph_snapshot; 17 is asked before 16)
  *
- * A symbol is 1 to 8 lower-case letters. 4: line 1 is anything but 1 to 8 different symbols with single spaces between. 6: also a run of more than 8 letters in a formula, or in braces a capital
+ * A symbol is 1 to 8 lower-case letters, and a mark, a name, a field or a value. 4: line 1 is anything but 1 to 8 different symbols with single spaces between. 5: line 2 is anything but one of
+ * `mark`, `name`, `field` and `value` for each symbol, or has more than 2 names. If it has values, each node of a drawing holds exactly one of them. 6: also a run of more than 8 letters in a formula, or in braces a capital
  * that is not a mode's first letter. 7: a symbol that line 1 does not have (two that are typed together are read as one), or of the wrong kind for its place.
  *
  * docs/SHEETS.md says how a sheet is written and what a verdict means; crates/ctl/specs/Tableau what types and namings are. A set of types is W words (1, 2 or 4): type j is bit j mod 64 of word j div 64. */
@@ -64,7 +65,7 @@ uint8_t lockgraph_goal(const uint8_t *sheet, size_t sheet_len, uint64_t out[2]);
  *
  * The text: a copy of the sheet's line 1, then a line for each of 1 to 16 nodes, from node 1. Every line ends with a newline, the last one too. A node's line has an entry for
  * each symbol of line 1, in that order, with single spaces between and none at its ends:
- * - for a mark or a name, 1 if it is on the node, else 0;
+ * - for a mark, a name or a value, 1 if it is on the node, else 0;
  * - for a field, the number of the node it leads to, from 1, or 0 if it leads nowhere.
  * Numbers are decimal, of 1 or 2 digits, without a leading 0. Under a sheet whose mark is lock and whose field is waits, the text "lock waits\n0 2\n1 0\n" has two nodes: lock is on node 2
  * alone, and waits leads from node 1 to node 2 and from there nowhere.
@@ -72,8 +73,9 @@ uint8_t lockgraph_goal(const uint8_t *sheet, size_t sheet_len, uint64_t out[2]);
  * Refused, each asked of the whole text before the next one is asked:
  * 13  the text is over 1,024 bytes, or has another shape than that: another first line, no node or over 16, no newline at the end, an empty line, an entry too few or too many,
  *     spaces elsewhere, another byte, three digits, or a leading 0 (`00`, `01`);
- * 14  an entry of a mark or a name is above 1, or an entry of a field is above the number of nodes;
+ * 14  an entry of a mark, a name or a value is above 1, or an entry of a field is above the number of nodes;
  * 15  a name, also one that no formula has, is on two nodes;
+ * 17  line 2 has values, and a node has none of them or several, whether formulas have them or not;
  * 16  the row has fewer bytes than the snapshot has nodes. */
 uint8_t lockgraph_snapshot(const uint8_t *sheet, size_t sheet_len, const uint8_t *text, size_t text_len, uint8_t *row, size_t row_len, uint64_t out[1]);
 

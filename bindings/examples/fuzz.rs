@@ -1,7 +1,7 @@
 //! fuzz N SEED: makes N generated calls to the proved library and the second checker, and compares them.
 //!
 //! It prints the first calls that differ, with all that is needed to repeat them; how often each operation had each outcome, and how
-//! many sheets had each spelling that matters; and as the last line `N compared, M differ`. The exit status is 0 if none differs.
+//! many sheets had each spelling and each declaration of values that matters; and as the last line `N compared, M differ`. The exit status is 0 if none differs.
 
 #[path = "../tests/compare/mod.rs"]
 mod compare;
@@ -25,8 +25,8 @@ fn main() -> ExitCode {
     for (operation, number) in done.seen.missing() {
         println!("{operation}: no call with outcome {number}");
     }
-    for spelling in done.seen.missing_spellings() {
-        println!("{spelling}: no sheet");
+    for shape in done.seen.missing_shapes() {
+        println!("{shape}: no sheet");
     }
     println!("{} compared, {} differ", done.seen.calls(), done.differ);
     ExitCode::from(u8::from(done.differ > 0))

@@ -241,8 +241,8 @@ pub fn goal_text(sheet: &[u8]) -> Result<&str, Refusal> {
 /// The bytes behind those of the nodes are as they were.
 ///
 /// The text is a copy of the sheet's line 1 and then a line for each node, each line with its newline. A node's line has an entry for each
-/// symbol of line 1, in that order, with single spaces between: 1 or 0 for a mark or a name that is on the node or not, and for a field the
-/// number of the node it leads to, from 1, or 0 if it leads nowhere.
+/// symbol of line 1, in that order, with single spaces between: 1 or 0 for a mark, a name or a value that is on the node or not, and for a
+/// field the number of the node it leads to, from 1, or 0 if it leads nowhere. If the sheet has values, each node has exactly one of them.
 ///
 /// ```
 /// use lockgraph::{snapshot, Refusal, ROW_BYTES};
@@ -254,6 +254,10 @@ pub fn goal_text(sheet: &[u8]) -> Result<&str, Refusal> {
 ///
 /// assert_eq!(snapshot(sheet, b"ready waits\n0 3\n1 1\n", &mut row), Err(Refusal::Entry));
 /// assert_eq!(snapshot(sheet, b"ready waits\n0 2\n1 1\n", &mut row[..1]), Err(Refusal::Row));
+///
+/// let sheet = b"thread lock waits\nvalue value field\ngoal EX{waits}lock\n";
+/// assert_eq!(snapshot(sheet, b"thread lock waits\n1 0 2\n0 1 0\n", &mut row)?, [3, 2]);
+/// assert_eq!(snapshot(sheet, b"thread lock waits\n1 0 2\n1 1 0\n", &mut row), Err(Refusal::Held));
 /// # Ok::<(), Refusal>(())
 /// ```
 pub fn snapshot<'a>(sheet: &[u8], text: &[u8], row: &'a mut [u8]) -> Result<&'a [u8], Refusal> {
@@ -266,6 +270,6 @@ fn told<const N: usize>(call: impl FnOnce(&mut [u64; N]) -> u8) -> Result<[u64; 
     let mut out = [0; N];
     match call(&mut out) {
         0 => Ok(out),
-        number => Err(Refusal::of_number(number).expect("the library's refusals are 1 to 16")),
+        number => Err(Refusal::of_number(number).expect("the library's refusals are 1 to 17")),
     }
 }

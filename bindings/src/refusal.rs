@@ -1,9 +1,9 @@
-//! The refusals, by the words of the document's table.
+//! The refusals, by the words of the documents' table.
 
 use std::error::Error;
 use std::fmt;
 
-/// Why a call was refused: the lowest number that applies.
+/// Why a call was refused: the first number that applies. They are asked in the order of their numbers, but for 17, which comes before 16.
 ///
 /// After a refusal every store is as it was before the call.
 ///
@@ -29,7 +29,7 @@ pub enum Refusal {
     Layout = 3,
     /// Line 1 is not 1 to 8 different symbols, each of 1 to 8 lower-case letters, with single spaces between.
     Names = 4,
-    /// Line 2 is not `mark`, `name` or `field` for each symbol, or has more than 2 names.
+    /// Line 2 is not `mark`, `name`, `field` or `value` for each symbol, or has more than 2 names.
     Kinds = 5,
     /// A formula does not parse. Nor does a run of more than 8 lower-case letters, in braces or outside.
     Grammar = 6,
@@ -39,7 +39,7 @@ pub enum Refusal {
     Braces = 8,
     /// Over 64 formulas with all their parts and expansions.
     Closure = 9,
-    /// Over 8 basic formulas.
+    /// Over 8 basic formulas. Every value is one of them, used in a formula or not.
     Lean = 10,
     /// The naming is not below the number of namings.
     Naming = 11,
@@ -47,12 +47,14 @@ pub enum Refusal {
     Store = 12,
     /// The snapshot's text is over 1,024 bytes, or not a copy of line 1 and 1 to 16 lines of entries.
     Snapshot = 13,
-    /// An entry of the snapshot is above 1 for a mark or a name, or above the number of nodes for a field.
+    /// An entry of the snapshot is above 1 for a mark, a name or a value, or above the number of nodes for a field.
     Entry = 14,
     /// A name is on two nodes of the snapshot, used in a formula or not.
     Twice = 15,
     /// The row is shorter than the snapshot has nodes.
     Row = 16,
+    /// A node of the snapshot has none of the values, or several. Asked before 16.
+    Held = 17,
 }
 
 impl Refusal {
@@ -62,9 +64,9 @@ impl Refusal {
     /// use lockgraph::Refusal;
     ///
     /// let numbers: Vec<u8> = Refusal::ALL.iter().map(|refusal| refusal.number()).collect();
-    /// assert_eq!(numbers, (1..=16).collect::<Vec<u8>>());
+    /// assert_eq!(numbers, (1..=17).collect::<Vec<u8>>());
     /// ```
-    pub const ALL: [Refusal; 16] = [
+    pub const ALL: [Refusal; 17] = [
         Refusal::Length,
         Refusal::Byte,
         Refusal::Layout,
@@ -81,9 +83,10 @@ impl Refusal {
         Refusal::Entry,
         Refusal::Twice,
         Refusal::Row,
+        Refusal::Held,
     ];
 
-    /// The number in the document's table, 1 to 16.
+    /// The number in the documents' table, 1 to 17.
     ///
     /// ```
     /// assert_eq!(lockgraph::Refusal::Store.number(), 12);
@@ -99,7 +102,7 @@ impl Refusal {
     ///
     /// assert_eq!(Refusal::of_number(9), Some(Refusal::Closure));
     /// assert_eq!(Refusal::of_number(0), None);
-    /// assert_eq!(Refusal::of_number(17), None);
+    /// assert_eq!(Refusal::of_number(18), None);
     /// ```
     pub fn of_number(number: u8) -> Option<Refusal> {
         let place = usize::from(number).checked_sub(1)?;
@@ -117,7 +120,7 @@ impl Refusal {
                 "line 1 is not 1 to 8 different symbols of 1 to 8 lower-case letters with single spaces"
             }
             Refusal::Kinds => {
-                "line 2 is not mark, name or field for each symbol, with at most 2 names"
+                "line 2 is not mark, name, field or value for each symbol, with at most 2 names"
             }
             Refusal::Grammar => "a formula does not parse",
             Refusal::Symbol => "a symbol is not in line 1 or is of the wrong kind for its place",
@@ -130,6 +133,7 @@ impl Refusal {
             Refusal::Entry => "an entry of the snapshot is above 1 or above the number of nodes",
             Refusal::Twice => "a name is on two nodes of the snapshot",
             Refusal::Row => "the row is too short",
+            Refusal::Held => "a node of the snapshot has none of the values, or several",
         }
     }
 }

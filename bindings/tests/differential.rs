@@ -18,8 +18,8 @@ fn same_outcomes_and_stores() {
     assert_eq!(done.seen.missing(), [], "outcomes that no call had");
     let none: [&str; 0] = [];
     assert_eq!(
-        done.seen.missing_spellings(),
+        done.seen.missing_shapes(),
         none,
-        "spellings that no sheet had"
+        "shapes that no sheet had"
     );
 }

@@ -24,7 +24,7 @@ pub fn ask(
     let lent = sheet.bytes.clone();
     let read = accept(rules(), &sheet.bytes);
     let outcome = read.as_ref().map_or_else(|&number| number, |_| 0);
-    seen.count_spellings(&sheet.bytes, outcome);
+    seen.count_sheet(sheet, outcome, calls);
     let (namings, words) = read
         .as_ref()
         .map_or((1, 1), |accepted| (accepted.namings(), accepted.words()));

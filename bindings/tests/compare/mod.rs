@@ -12,6 +12,7 @@ mod sheets;
 mod spelling;
 mod stores;
 mod told;
+mod values;
 
 use rules::rules;
 use second_checker::generate::Chance;

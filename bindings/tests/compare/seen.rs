@@ -1,14 +1,19 @@
 //! Which outcomes the calls had, so that nothing passes for want of calls.
 
+use super::sheets::Sheet;
 use super::spelling::{self, SPELLINGS};
+use super::values::{self, VALUES};
 use std::collections::BTreeMap;
 use std::fmt;
 
-/// How often each operation had each outcome, and how many sheets had each spelling. An outcome is a refusal's number, or 0.
+/// How often each operation had each outcome, how many sheets had each spelling and each declaration of values, and how many calls were
+/// about accepted sheets with values. An outcome is a refusal's number, or 0.
 #[derive(Default)]
 pub struct Seen {
     counts: BTreeMap<(&'static str, u8), u64>,
     spellings: [u64; SPELLINGS.len()],
+    values: [u64; VALUES.len()],
+    about_values: u64,
 }
 
 impl Seen {
@@ -17,10 +22,17 @@ impl Seen {
         *self.counts.entry((operation, number)).or_default() += 1;
     }
 
-    /// A sheet that is asked about, with its outcome.
-    pub fn count_spellings(&mut self, sheet: &[u8], outcome: u8) {
-        for place in spelling::spellings(sheet, outcome) {
+    /// A sheet that so many calls are about, with its outcome.
+    pub fn count_sheet(&mut self, sheet: &Sheet, outcome: u8, calls: u64) {
+        for place in spelling::spellings(&sheet.bytes, outcome) {
             self.spellings[place] += 1;
+        }
+        let values = values::values(sheet, outcome);
+        if outcome == 0 && !values.is_empty() {
+            self.about_values += calls;
+        }
+        for place in values {
+            self.values[place] += 1;
         }
     }
 
@@ -32,6 +44,10 @@ impl Seen {
         for (place, count) in other.spellings.iter().enumerate() {
             self.spellings[place] += count;
         }
+        for (place, count) in other.values.iter().enumerate() {
+            self.values[place] += count;
+        }
+        self.about_values += other.about_values;
     }
 
     pub fn calls(&self) -> u64 {
@@ -45,18 +61,26 @@ impl Seen {
             .collect()
     }
 
-    /// The spellings that no sheet had.
-    pub fn missing_spellings(&self) -> Vec<&'static str> {
-        let counts = SPELLINGS.iter().zip(self.spellings);
-        counts
-            .filter(|(_, count)| *count == 0)
-            .map(|((spelling, _), _)| *spelling)
+    /// The spellings and the declarations of values, each with its outcome, and how many sheets had them.
+    fn shapes(&self) -> impl Iterator<Item = (&'static str, u8, u64)> + '_ {
+        let spellings = SPELLINGS.iter().zip(self.spellings);
+        let values = VALUES.iter().zip(self.values);
+        spellings
+            .chain(values)
+            .map(|(&(shape, outcome), count)| (shape, outcome, count))
+    }
+
+    /// Those that no sheet had.
+    pub fn missing_shapes(&self) -> Vec<&'static str> {
+        self.shapes()
+            .filter(|&(_, _, count)| count == 0)
+            .map(|(shape, _, _)| shape)
             .collect()
     }
 }
 
 impl fmt::Display for Seen {
-    /// A line for each operation and for each spelling.
+    /// A line for each operation, for each spelling and declaration of values, and for the calls about values.
     fn fmt(&self, f: &mut fmt::Formatter<'_>) -> fmt::Result {
         let mut line = "";
         for ((operation, number), count) in &self.counts {
@@ -73,14 +97,18 @@ impl fmt::Display for Seen {
             }
         }
         writeln!(f)?;
-        for ((spelling, outcome), count) in SPELLINGS.iter().zip(self.spellings) {
+        for (shape, outcome, count) in self.shapes() {
             let sheets = match outcome {
                 0 => "accepted".to_string(),
                 _ => format!("refused {outcome}"),
             };
-            writeln!(f, "{spelling}: {count} sheets {sheets}")?;
+            writeln!(f, "{shape}: {count} sheets {sheets}")?;
         }
-        Ok(())
+        writeln!(
+            f,
+            "{} calls about accepted sheets with values",
+            self.about_values
+        )
     }
 }
 
@@ -92,7 +120,7 @@ fn possible() -> impl Iterator<Item = (&'static str, u8)> {
         ("list", &[11, 12]),
         ("verdict", &[]),
         ("goal", &[]),
-        ("snapshot", &[13, 14, 15, 16]),
+        ("snapshot", &[13, 14, 15, 16, 17]),
     ];
     OWN.into_iter().flat_map(|(operation, own)| {
         (0..=10)

@@ -3,6 +3,7 @@
 
 use super::rules;
 use super::spelling;
+use super::values;
 use second_checker::closure::accept;
 use second_checker::generate::{self, Chance, Draft};
 use second_checker::requests::sheets::{self as requested, Wish};
@@ -32,11 +33,12 @@ impl Sheet {
         accept(rules(), &self.bytes).map_or(true, |accepted| accepted.namings() <= namings)
     }
 
-    /// A snapshot's text, damaged one time in three; some begin with another line 1.
+    /// A snapshot's text, damaged one time in three; some have a node that holds no value or several, some begin with another line 1.
     pub fn picture(&self, c: &mut Chance) -> Vec<u8> {
         match c.below(12) {
             0..=3 => generate::damaged_picture(c, &self.symbols, &self.kinds).0,
-            4 => {
+            4 => values::misheld(c, self),
+            5 => {
                 let symbols = spelling::other_symbols(c, &self.symbols);
                 generate::picture(c, &symbols, &self.kinds).bytes()
             }
@@ -51,6 +53,7 @@ pub fn sound(c: &mut Chance) -> Sheet {
         0 => many_namings(c),
         1..=256 => pressed(c),
         257..=576 => in_words(c),
+        700..=860 => with_values(c),
         577..=640 => respelt(c),
         _ => {
             let size = c.between(2, 10);
@@ -70,6 +73,12 @@ fn wish(c: &mut Chance) -> Wish {
 fn in_words(c: &mut Chance) -> Sheet {
     let wish = wish(c);
     Sheet::of(&requested::sound(c, wish))
+}
+
+/// One with values, mostly.
+fn with_values(c: &mut Chance) -> Sheet {
+    let level = rules().level;
+    Sheet::of(&requested::sound(c, Wish { level, focus: 3 }))
 }
 
 /// One with much to strike, or any in words, with a symbol of it spelt otherwise in all places.

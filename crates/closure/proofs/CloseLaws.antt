@@ -18,8 +18,8 @@ use Rattle.ctl.specs.Closure.{closure, closureAll, closureOf}
 use Rattle.ctl.proofs.ClosureLaws.{closure-unique, dedupe-in, dedupe-out}
 use Rattle.ctl.proofs.SortLaws.{unique-length}
 use Rattle.members.specs.Members.{Members, forms, formsFrom}
-use Rattle.members.specs.Grown.{Ready, Grows, Done, Answer}
-use Rattle.closure.specs.Closed.{ClosedIs, Closes, Tabled, Placed, beyond, within}
+use Rattle.members.specs.Grown.{Ready, Tabled, Grows, Done, Answer}
+use Rattle.closure.specs.Closed.{ClosedIs, Closes, Placed, beyond, within}
 use Rattle.closure.specs.Given.{Reads, Adds, Given}
 use Rattle.members.proofs.MemberLaws.{forms-length}
 use Rattle.members.proofs.StepLaws.{_⊆_, grows-none, grows-then, grows-at, too-many-then, drop-later, was-added, was-full}
@@ -143,6 +143,7 @@ module _ (fs : List Form) (tab₀ places₀ : List ℕ) where
       (record {
         room = s .ready .room;
         members = s .ready .members;
+        unique = closure-unique fs;
         has = into;
         only = out;
         count = let a = unique-length (forms (take n tab)) (closure fs) (s .ready .members .unique) out in
@@ -227,8 +228,8 @@ module _ (ns roots tab₀ places₀ : List ℕ) (c : Closes ns roots tab₀ plac
 
 module _ {fs : List Form} {tab tab′ places places′ : List ℕ} where
   -- how many members the closure has
-  pub was-within : {r : Closed} {m : ℕ} → ClosedIs fs tab tab′ places places′ r → r ≡ Within m → Tabled fs tab′ m × Placed fs tab′ places′ m
-  was-within {m = m} (within {m = k} s p e b c) i = let q : k ≡ m = cc in subst (λ x. Tabled fs tab′ x × Placed fs tab′ places′ x) q (s, p)
+  pub was-within : {r : Closed} {m : ℕ} → ClosedIs fs tab tab′ places places′ r → r ≡ Within m → Tabled (closure fs) tab′ m × Placed fs tab′ places′ m
+  was-within {m = m} (within {m = k} s p e b c) i = let q : k ≡ m = cc in subst (λ x. Tabled (closure fs) tab′ x × Placed fs tab′ places′ x) q (s, p)
   was-within (beyond l e f) i = let z : _≡_ {A = ℕ} 0 1 = cc in absurd (omega arith)
 
   -- it says the number of members exactly if there is room for them

@@ -8,7 +8,8 @@ use Rattle.ctl.specs.Formula.{Form, tru}
 use Rattle.ctl.specs.Raw.{Raw}
 use Rattle.ctl.specs.Positive.{positive}
 use Rattle.ctl.specs.Closure.{closure}
-use Rattle.members.specs.Members.{Members, forms}
+use Rattle.members.specs.Members.{forms}
+use Rattle.members.specs.Grown.{Tabled}
 use Rattle.closure.specs.Given.{Fits, Given}
 use Rattle.closure.specs.declared.Closed.{Closed}
 use Rattle.closure.specs.declared.Closed.the-variants.{Within, Beyond}
@@ -23,22 +24,14 @@ pub record Closes (ns roots tab places : List ℕ) : Type 0 where
   pub small : length tab ≤ 256
   pub room : length roots ≤ length places
 
--- the first m words of the table are the members of the closure of the formulas fs, each once
-pub record Tabled (fs : List Form) (tab : List ℕ) (m : ℕ) : Type 0 where
-  pub room : m ≤ length tab
-  pub members : Members (take m tab)
-  pub has : (p : Form) → p ∈ closure fs → p ∈ forms (take m tab)
-  pub only : (p : Form) → p ∈ forms (take m tab) → p ∈ closure fs
-  pub count : m ≡ length (closure fs)
-
--- and the first of `places` are the places of fs themselves
+-- the first of `places` are the places of the formulas fs in the table
 pub record Placed (fs : List Form) (tab places : List ℕ) (m : ℕ) : Type 0 where
   pub below : (j : ℕ) → j < length fs → getD places j 0 < m
   pub at : (j : ℕ) → j < length fs → getD (forms (take m tab)) (getD places j 0) tru ≡ getD fs j tru
 
--- The closure has as many members as it says, and what stands behind them and behind the places is as it was; or the closure has more members than there is room for.
+-- The closure stands in the table and has as many members as it says, and what stands behind them and behind the places is as it was; or the closure has more members than there is room for.
 pub data ClosedIs (fs : List Form) (tab tab′ places places′ : List ℕ) : Closed → Type 0 where
-  within : {m : ℕ} → Tabled fs tab′ m → Placed fs tab′ places′ m → length tab′ ≡ length tab → drop m tab′ ≡ drop m tab → drop (length fs) places′ ≡ drop (length fs) places → ClosedIs fs tab tab′ places places′ (Within m)
+  within : {m : ℕ} → Tabled (closure fs) tab′ m → Placed fs tab′ places′ m → length tab′ ≡ length tab → drop m tab′ ≡ drop m tab → drop (length fs) places′ ≡ drop (length fs) places → ClosedIs fs tab tab′ places places′ (Within m)
   beyond : length tab < length (closure fs) → length tab′ ≡ length tab → length places′ ≡ length places → ClosedIs fs tab tab′ places places′ Beyond
 
 -- what closing gives for whichever formulas stand at the roots

@@ -43,11 +43,11 @@ each-right : (P : Form → Type 0) (k l : List Form) → Each P (k ++ l) → Eac
 each-right P [] l a = a
 each-right P (p ∷ k) l a = each-right P k l (a .1)
 
-elemF-in : {p : Form} {l : List Form} → p ∈ l → T (elemF p l)
+pub elemF-in : {p : Form} {l : List Form} → p ∈ l → T (elemF p l)
 unfolding elemF
 elemF-in {p} m = any-in (formEq p) m (formEq-refl p)
 
-elemF-out : (p : Form) (l : List Form) → T (elemF p l) → p ∈ l
+pub elemF-out : (p : Form) (l : List Form) → T (elemF p l) → p ∈ l
 unfolding elemF
 elemF-out p l t = let r = any-out (formEq p) l t in Memᴰ·cast (formEq-out p (r .0) (r .2)) (r .1)
 

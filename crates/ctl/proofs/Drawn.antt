@@ -3,24 +3,25 @@
 use mathlib.Core.Path.{_≡_, refl}
 use mathlib.Core.List.{List, [], _∷_, map}
 use Prim.Native.Nat.{ℕ, _+_, _^_}
-use lib.ListN.{getD}
+use lib.ListN.{length, getD}
 use Rattle.ctl.specs.Lists.{elem}
 use Rattle.ctl.specs.Raw.{Raw, zero, one, sym, neg, and, imp, ex, ax, ef, af, eg, au}
 use Rattle.ctl.specs.Positive.{positive, signed}
-use Rattle.ctl.specs.Tableau.{Tableau}
+use Rattle.ctl.specs.Tableau.{Tableau, namings, startTypes}
 use Rattle.ctl.specs.Verdict.{Verdict, unsatisfiable, open′, verdict}
 use Rattle.ctl.specs.Demand3.{sheetTableau}
 
--- a sheet: the spellings of line 1 as bytes, the symbols that are names, the globals, the goal
+-- a sheet: the spellings of line 1 as bytes, the symbols that are names, those that are values, the globals, the goal
 record Drawing : Type 0 where
   spellings : List (List ℕ)
   names : List ℕ
+  values : List ℕ
   globals : List Raw
   goal : Raw
 
 tableau : Drawing → Tableau
 unfolding sheetTableau elem
-tableau d = sheetTableau (λ k. getD (d .spellings) k []) (λ k. elem k (d .names)) (d .globals) (d .goal)
+tableau d = sheetTableau (λ k. getD (d .spellings) k []) (λ k. elem k (d .names)) (d .values) (d .globals) (d .goal)
 
 judged : Drawing → Verdict
 unfolding tableau verdict signed
@@ -30,7 +31,7 @@ judged d = verdict (tableau d) (positive (d .goal))
 
 -- under `k f`, `mark field`: k is symbol 0, f field 1
 kf : Raw → Drawing
-kf goal = record { spellings = (107 ∷ []) ∷ (102 ∷ []) ∷ []; names = []; globals = []; goal = goal }
+kf goal = record { spellings = (107 ∷ []) ∷ (102 ∷ []) ∷ []; names = []; values = []; globals = []; goal = goal }
 
 k : Raw
 k = sym 0
@@ -50,15 +51,25 @@ both = forward + backward
 example51 : Drawing
 example51 =
     let v = sym 1 in
-    record { spellings = (107 ∷ []) ∷ (118 ∷ []) ∷ (102 ∷ []) ∷ (103 ∷ []) ∷ []; names = 1 ∷ []; globals = imp v (and (ex (2 ^ 2) k) (ex (2 ^ 2) (neg k))) ∷ []; goal = ex (2 ^ 3) v }
+    record { spellings = (107 ∷ []) ∷ (118 ∷ []) ∷ (102 ∷ []) ∷ (103 ∷ []) ∷ []; names = 1 ∷ []; values = []; globals = imp v (and (ex (2 ^ 2) k) (ex (2 ^ 2) (neg k))) ∷ []; goal = ex (2 ^ 3) v }
 
 -- `k f`, `all !k`, `goal EF{f}k`
 neverThere : Drawing
-neverThere = record { spellings = (107 ∷ []) ∷ (102 ∷ []) ∷ []; names = []; globals = neg k ∷ []; goal = ef forward k }
+neverThere = record { spellings = (107 ∷ []) ∷ (102 ∷ []) ∷ []; names = []; values = []; globals = neg k ∷ []; goal = ef forward k }
 
 -- `k f g`, `all EX{g}!k`, `goal AF{f,g}k&!k&EX{f}1`
 otherWay : Drawing
-otherWay = record { spellings = (107 ∷ []) ∷ (102 ∷ []) ∷ (103 ∷ []) ∷ []; names = []; globals = ex (2 ^ 2) (neg k) ∷ []; goal = and (af (2 ^ 1 + 2 ^ 2) k) (and (neg k) (ex (2 ^ 1) one)) }
+otherWay = record { spellings = (107 ∷ []) ∷ (102 ∷ []) ∷ (103 ∷ []) ∷ []; names = []; values = []; globals = ex (2 ^ 2) (neg k) ∷ []; goal = and (af (2 ^ 1 + 2 ^ 2) k) (and (neg k) (ex (2 ^ 1) one)) }
+
+-- `a b f`, `value value field`: a is symbol 0, b symbol 1, f field 2
+abf : Raw → Drawing
+abf goal = record { spellings = (97 ∷ []) ∷ (98 ∷ []) ∷ (102 ∷ []) ∷ []; names = []; values = 0 ∷ 1 ∷ []; globals = []; goal = goal }
+
+-- `v a b f`, `name value value field`, `goal EX{f}(v&a)&EX{F}(v&b)`
+namedValue : Drawing
+namedValue =
+    let v = sym 0 in
+    record { spellings = (118 ∷ []) ∷ (97 ∷ []) ∷ (98 ∷ []) ∷ (102 ∷ []) ∷ []; names = 0 ∷ []; values = 1 ∷ 2 ∷ []; globals = []; goal = and (ex (2 ^ 3) (and v (sym 1))) (ex (2 ^ 11) (and v (sym 2))) }
 
 -- ---- verdicts
 
@@ -67,7 +78,7 @@ record Case : Type 0 where
   answer : Verdict
 
 cases : List Case
-unfolding kf k forward backward both example51 neverThere otherWay
+unfolding kf k forward backward both example51 neverThere otherWay abf namedValue
 cases =
     -- `EX{F}k&EX{F}!k`: not one predecessor for all backward EX
     record { drawing = kf (and (ex backward k) (ex backward (neg k))); answer = open′ 0 6 }
@@ -87,8 +98,38 @@ cases =
     ∷ record { drawing = otherWay; answer = unsatisfiable }
     -- it takes more than one round
     ∷ record { drawing = example51; answer = unsatisfiable }
+    -- values: `a`, `!a`: one that does not occur is in the lean
+    ∷ record { drawing = abf (sym 0); answer = open′ 0 1 }
+    ∷ record { drawing = abf (neg (sym 0)); answer = open′ 0 2 }
+    -- `!a&!b`, `EX{f}(a&b)`: a node holds one, and no more
+    ∷ record { drawing = abf (and (neg (sym 0)) (neg (sym 1))); answer = unsatisfiable }
+    ∷ record { drawing = abf (ex (2 ^ 2) (and (sym 0) (sym 1))); answer = unsatisfiable }
+    -- a name's set covers the values
+    ∷ record { drawing = namedValue; answer = unsatisfiable }
     ∷ []
 
 all-verdicts : map (λ c. judged (c .drawing)) cases ≡ map (λ c. c .answer) cases
 unfolding judged cases
 all-verdicts = refl
+
+-- ---- sizes
+
+record Sizes : Type 0 where
+  drawing : Drawing
+  sizes : List ℕ
+
+-- how many members the closure has, places the lean, namings there are, and types at start under naming 0
+sized : Drawing → List ℕ
+unfolding tableau namings startTypes
+sized d = let S = tableau d in length (S .cl) ∷ length (S .ln) ∷ namings S ∷ length (startTypes S 0) ∷ []
+
+drawings : List Sizes
+unfolding abf
+drawings =
+    -- a value that does not occur is a lean place, and no closure member
+    record { drawing = abf (sym 0); sizes = 1 ∷ 2 ∷ 1 ∷ 2 ∷ [] }
+    ∷ []
+
+all-sizes : map (λ c. sized (c .drawing)) drawings ≡ map (λ c. c .sizes) drawings
+unfolding sized drawings
+all-sizes = refl

@@ -15,7 +15,7 @@ use Rattle.ctl.specs.Positive.{positive}
 use Rattle.ctl.specs.Print.{capital, printMode, printModes, braces, print}
 use Rattle.ctl.specs.Alphabet.{Declared, DeclaredAll, Over, OverRaw}
 use Rattle.ctl.specs.Closure.{closure}
-use Rattle.ctl.specs.Lean.{printLt, symbolLt, isLetter, isNext, lean}
+use Rattle.ctl.specs.Lean.{printLt, symbolLt, isLetter, isNext, withValues, lean}
 use Rattle.ctl.specs.Demand3.{sheetTableau}
 use Rattle.ctl.specs.Former.{formerMode, formerModes, formerBraces, formerPrint, formerLt, formerLean, formerTableau}
 use Rattle.ctl.proofs.ListLaws.{keep-out, map-out}
@@ -68,12 +68,12 @@ module _ (spell : ℕ → List ℕ) (letter : ℕ → ℕ) (count : ℕ) (few : 
       ap (λ l. sort symbolLt (keep isLetter cl) ++ l)
       (sort-same (printLt spell) (formerLt letter) (keep isNext cl) (λ p q m k. order-former p q (over p (keep-out isNext cl m .0)) (over q (keep-out isNext cl k .0))))
 
-  -- and the tableau, hence all that goes by it: tables, rounds, verdicts
+  -- and the tableau of a sheet without values, hence all that goes by it: tables, rounds, verdicts
   pub tableau-former : (name : ℕ → Bool) (globals : List Raw) (goal : Raw) → ((p : Raw) → p ∈ globals → OverRaw count p) → OverRaw count goal
-      → sheetTableau spell name globals goal ≡ formerTableau letter name globals goal
-  unfolding sheetTableau formerTableau
+      → sheetTableau spell name [] globals goal ≡ formerTableau letter name globals goal
+  unfolding sheetTableau formerTableau withValues
   tableau-former name globals goal og o =
-      ap (λ l. record { cl = closure forms; ln = l; name = name; globals = map positive globals }) (lean-former (closure forms) (closure-over count forms forms-over))
+      ap (λ l. record { cl = closure forms; ln = l; name = name; values = []; globals = map positive globals }) (lean-former (closure forms) (closure-over count forms forms-over))
     where
       forms : List Form
       forms = map positive globals ++ (positive goal ∷ [])

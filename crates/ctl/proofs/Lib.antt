@@ -26,10 +26,12 @@ pub mod PositiveLaws
 pub mod ExpansionLaws
 pub mod NodeLaws
 pub mod NodeTypes
+pub mod ValueLaws
 pub mod Soundness
 pub mod NamingLaws
 pub mod Demand3
 pub mod OrderLaws
 pub mod FormerLaws
+pub mod Unchanged
 pub mod Drawn
 pub mod DrawnSnapshots

@@ -1,6 +1,6 @@
 -- Lists searched, kept and counted by a test, and the numbers below a bound. Assumes nothing.
 use mathlib.Core.Path.{_≡_, refl, sym, ap, ap₂, _∙_, subst}
-use mathlib.Core.Logic.{_⊎_, inl, inr}
+use mathlib.Core.Logic.{_⊎_, inl, inr, _↔_}
 use mathlib.Core.Bool.{Bool, true, false, _&&_}
 use mathlib.Core.List.{List, [], _∷_, _++_, map, List·Memᴰ·head, List·Memᴰ·tail, List·Memᴰ·cases-cons, List·Memᴰ·not-nil, List·Memᴰ·eq-of-singleton, Memᴰ·cast}
 use Prim.Native.Nat.{ℕ, zero, suc, _+_, _≤_, _<_}
@@ -41,15 +41,20 @@ module _ {ℓ} {A : Type ℓ} where
       go (inr s) rec = (x, List·Memᴰ·head refl, s)
       go (inl s) rec = let r = rec (λ t. f (and-in (p x) (allOf p xs) s t)) in (r .0, List·Memᴰ·tail (r .1), r .2)
 
-  put-in : (b : Bool) {x y : A} (l : List A) → T b → y ≡ x → y ∈ put b x l
+  -- a list without members is empty
+  pub none-in : (l : List A) → ((x : A) → x ∈ l → ⊥) → l ≡ []
+  none-in [] f = refl
+  none-in (x ∷ l) f = absurd (f x (List·Memᴰ·head refl))
+
+  pub put-in : (b : Bool) {x y : A} (l : List A) → T b → y ≡ x → y ∈ put b x l
   put-in true l t e = List·Memᴰ·head e
   put-in false l t e = absurd t
 
-  put-rest : (b : Bool) (x : A) {y : A} {l : List A} → y ∈ l → y ∈ put b x l
+  pub put-rest : (b : Bool) (x : A) {y : A} {l : List A} → y ∈ l → y ∈ put b x l
   put-rest true x m = List·Memᴰ·tail m
   put-rest false x m = m
 
-  put-out : (b : Bool) {x y : A} {l : List A} → y ∈ put b x l → (T b × (y ≡ x)) ⊎ (y ∈ l)
+  pub put-out : (b : Bool) {x y : A} {l : List A} → y ∈ put b x l → (T b × (y ≡ x)) ⊎ (y ∈ l)
   put-out true (List·Memᴰ·head e) = inl (tt, e)
   put-out true (List·Memᴰ·tail m) = inr m
   put-out false m = inr m
@@ -66,7 +71,7 @@ module _ {ℓ} {A : Type ℓ} where
       go (inl s) rec = (List·Memᴰ·head (s .1), subst (λ z. T (p z)) (sym (s .1)) (s .0))
       go (inr k) rec = (List·Memᴰ·tail (rec k .0), rec k .1)
 
-  put-length : (b : Bool) (x : A) (l : List A) (n : ℕ) → length l ≤ n → length (put b x l) ≤ suc n
+  pub put-length : (b : Bool) (x : A) (l : List A) (n : ℕ) → length l ≤ n → length (put b x l) ≤ suc n
   put-length true x l n h = omega arith
   put-length false x l n h = omega arith
 
@@ -166,6 +171,10 @@ below-in {i} {n} h = countFrom-in 0 n i (omega arith) (omega arith)
 
 pub below-out : (n : ℕ) {i : ℕ} → i ∈ below n → i < n
 below-out n m = let r = countFrom-out 0 n m in omega arith
+
+-- the numbers below n that pass a test
+pub kept-below : (P : ℕ → Bool) (n k : ℕ) → (k ∈ keep P (below n)) ↔ ((k < n) × T (P k))
+kept-below P n k = (λ m. (let w = keep-out P (below n) m in (below-out n (w .0), w .1)), λ h. keep-in P (below-in (h .0)) (h .1))
 
 -- the number at a place of those mapped
 pub getD-count : {A : Type 0} (f : ℕ → A) (d : A) (a n k : ℕ) → k < n → getD (map f (countFrom a n)) k d ≡ f (a + k)

@@ -43,10 +43,10 @@ index-is p (q ∷ l) m = go (formEq q p) refl (List·Memᴰ·cases-cons m) (inde
     go false e (inl i) rec = absurd (subst T (ap (λ x. formEq x p) i ∙ e) (formEq-refl p))
     go false e (inr k) rec = let r = rec k in (omega arith, r .1)
 
-index-lt : (p : Form) (l : List Form) → p ∈ l → indexOf p l < length l
+pub index-lt : (p : Form) (l : List Form) → p ∈ l → indexOf p l < length l
 index-lt p l m = index-is p l m .0
 
-index-at : (p : Form) (l : List Form) → p ∈ l → getD l (indexOf p l) tru ≡ p
+pub index-at : (p : Form) (l : List Form) → p ∈ l → getD l (indexOf p l) tru ≡ p
 index-at p l m = index-is p l m .1
 
 -- ---- the type of a node
@@ -96,7 +96,7 @@ module _ (S : Tableau) (proper : Proper S) (s : Snapshot) where
   ty i = nodeType S s i
 
   -- a lean member is true in the type of a node if it holds there
-  holds-node : (p : Form) (i : ℕ) → p ∈ ln → holds ln (ty i) p ≡ sat s p i
+  pub holds-node : (p : Form) (i : ℕ) → p ∈ ln → holds ln (ty i) p ≡ sat s p i
   unfolding holds
   holds-node p i m = type-place S s i (indexOf p ln) (index-lt p ln m) ∙ ap (λ q. sat s q i) (index-at p ln m)
 

@@ -11,11 +11,11 @@ use Rattle.ctl.specs.Lists.{_∈_, allOf, imp, below}
 use Rattle.ctl.specs.Formula.{Form, tru, fls, lit, nlit, and, or, ex, ax, eu, au, er, ar}
 use Rattle.ctl.specs.Modes.{hasMode, modes, single}
 use Rattle.ctl.specs.Expansion.{parts}
-use Rattle.ctl.specs.Snapshot.{Snapshot, step}
+use Rattle.ctl.specs.Snapshot.{Snapshot, ValuesSingle, step}
 use Rattle.ctl.specs.Meaning.{Leads}
 use Rattle.ctl.specs.Types.{truth}
 use Rattle.ctl.specs.Links.{linkRule, link, linkBy}
-use Rattle.ctl.specs.Tableau.{Tableau, obeys, starts, startTypes}
+use Rattle.ctl.specs.Tableau.{Tableau, obeys, valued, starts, startTypes}
 use Rattle.ctl.specs.ClosedFamily
 use Rattle.ctl.specs.ClosedFamily.{linked, oneOf, stop, Ranked}
 use Rattle.ctl.specs.Verdict.{MeetsIn, ClosedIn, familyOf, survivingTypes}
@@ -29,9 +29,10 @@ use Rattle.ctl.proofs.VerdictLaws.{surviving-iff}
 use Rattle.ctl.proofs.Paths
 use Rattle.ctl.proofs.NodeLaws.{step-lt, step-target, step-back, leads-out, ex-out, ax-out, eu-chain, rankAU, au-rank, au-both}
 use Rattle.ctl.proofs.NodeTypes.{nodeType, type-lt, part-0, part-1, true-node, node-true}
+use Rattle.ctl.proofs.ValueLaws.{valued-node}
 
 module _ (S : Tableau) (proper : Proper S) (s : Snapshot) where
-  open Tableau S using (cl, ln, globals)
+  open Tableau S using (cl, ln, values, globals)
   open Proper proper using (globals-in)
 
   abbrev ty : ℕ → ℕ
@@ -178,13 +179,15 @@ module _ (S : Tableau) (proper : Proper S) (s : Snapshot) where
 
   -- ---- so it survives
 
-  -- every global holds at every node, and every node's type obeys the naming
-  module _ (hold : (p : Form) → p ∈ globals → (i : ℕ) → i < s .n → T (sat s p i)) (r : ℕ) (fits : (i : ℕ) → i < s .n → T (obeys S r (ty i))) where
+  -- each node holds exactly one of the values, if any is declared, every global holds at every node, and every node's type obeys the naming
+  module _ (rule : ValuesSingle values s) (hold : (p : Form) → p ∈ globals → (i : ℕ) → i < s .n → T (sat s p i)) (r : ℕ) (fits : (i : ℕ) → i < s .n → T (obeys S r (ty i))) where
     pub starts-node : (i : ℕ) → i < s .n → ty i ∈ startTypes S r
     unfolding startTypes starts
     starts-node i l =
         keep-in (starts S r) (below-in (type-lt S s i))
-        (and-in (obeys S r (ty i)) (allOf (truth ln (ty i)) globals) (fits i l) (all-in (truth ln (ty i)) globals (λ p m. true-node S proper s p i l (globals-in p m) (hold p m i l))))
+        (and-in (obeys S r (ty i)) (valued S (ty i) && allOf (truth ln (ty i)) globals) (fits i l)
+        (and-in (valued S (ty i)) (allOf (truth ln (ty i)) globals) (valued-node S proper s rule i l)
+        (all-in (truth ln (ty i)) globals (λ p m. true-node S proper s p i l (globals-in p m) (hold p m i l)))))
 
     closed-nodes : ClosedIn S r nodeTypes
     unfolding nodeTypes

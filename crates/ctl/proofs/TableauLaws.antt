@@ -14,7 +14,7 @@ use Rattle.ctl.specs.Modes.{single}
 use Rattle.ctl.specs.Equality.{tag, num, right, formEq}
 use Rattle.ctl.specs.Expansion.{expand, parts}
 use Rattle.ctl.specs.Closure.{closure}
-use Rattle.ctl.specs.Lean.{isLetter, isNext, lean}
+use Rattle.ctl.specs.Lean.{isLetter, isNext, withValues, lean}
 use Rattle.ctl.specs.Types.{inType, indexOf, holds, truth}
 use Rattle.ctl.specs.Tableau.{Tableau, tableauOf}
 use Rattle.ctl.proofs.BoolLaws.{T-true, and-0, and-1, or-out}
@@ -22,10 +22,10 @@ use Rattle.ctl.proofs.ListLaws.{getD-in}
 use Rattle.ctl.proofs.FormulaLaws.{formEq-out, formEq-refl, is-lit, is-ex, is-ax}
 use Rattle.ctl.proofs.ModeLaws.{single-out}
 use Rattle.ctl.proofs.ClosureLaws.{closure-saturated, closure-has, closure-unique}
-use Rattle.ctl.proofs.LeanOrder.{lean-members, lean-unique}
+use Rattle.ctl.proofs.LeanOrder.{with-unique, lean-members, lean-unique, lean-values}
 use Rattle.ctl.proofs.TypeLaws.{truth-ex, truth-ax}
 
--- its closure has the parts and expansions of its members and the globals; its lean has the symbols and the single-mode EX and AX of the closure
+-- its closure has the parts and expansions of its members and the globals; its lean has the symbols and the single-mode EX and AX of the closure, and all values, each once
 pub record Proper (S : Tableau) : Type 0 where
   pub part : (p q : Form) → p ∈ S .cl → q ∈ parts p → q ∈ S .cl
   pub expansion : (p : Form) → p ∈ S .cl → expand p ∈ S .cl
@@ -33,21 +33,29 @@ pub record Proper (S : Tableau) : Type 0 where
   pub letter : (k : ℕ) → lit k ∈ S .cl → lit k ∈ S .ln
   pub single-ex : (A : ℕ) (p : Form) → ex A p ∈ S .cl → T (single A) → ex A p ∈ S .ln
   pub single-ax : (A : ℕ) (p : Form) → ax A p ∈ S .cl → T (single A) → ax A p ∈ S .ln
+  pub value : (k : ℕ) → k ∈ S .values → lit k ∈ S .ln
+  pub once : Unique (S .ln)
 
-module _ (spell : ℕ → List ℕ) (name : ℕ → Bool) (globals goals : List Form) where
-  C : List Form
+module _ (spell : ℕ → List ℕ) (name : ℕ → Bool) (values : List ℕ) (globals goals : List Form) where
+  abbrev C : List Form
   C = closure (globals ++ goals)
 
+  -- a closure member that is a symbol, or EX or AX over one mode, is in the lean
+  in-lean : (p : Form) → p ∈ C → T (isLetter p || isNext p) → p ∈ lean spell (withValues values C)
+  in-lean p m h = lean-values spell values C p .1 (inl (m, h))
+
   -- the tableau of globals and goals is proper
-  pub tableau-proper : Proper (tableauOf spell name globals goals)
-  unfolding tableauOf isNext C
+  pub tableau-proper : Proper (tableauOf spell name values globals goals)
+  unfolding tableauOf isNext
   tableau-proper = record {
     part = closure-saturated (globals ++ goals) .part;
     expansion = closure-saturated (globals ++ goals) .expansion;
     globals-in = λ p m. closure-has (globals ++ goals) (Memᴰ·append-left goals m);
-    letter = λ k m. lean-members spell C (lit k) .1 (m, tt);
-    single-ex = λ A p m s. lean-members spell C (ex A p) .1 (m, s);
-    single-ax = λ A p m s. lean-members spell C (ax A p) .1 (m, s);
+    letter = λ k m. in-lean (lit k) m tt;
+    single-ex = λ A p m s. in-lean (ex A p) m s;
+    single-ax = λ A p m s. in-lean (ax A p) m s;
+    value = λ k m. lean-values spell values C (lit k) .1 (inr (k, m, refl));
+    once = lean-unique spell (withValues values C) (with-unique C values (closure-unique (globals ++ goals)));
   }
 
 -- ---- a lean member is true in exactly the types that have its place
@@ -88,17 +96,17 @@ module _ (ln : List Form) (t : ℕ) where
       go (inl k) = subst (λ q. truth ln t q ≡ holds ln t q) (sym (is-ex p k)) (ex-holds (num p) (right p) s)
       go (inr k) = subst (λ q. truth ln t q ≡ holds ln t q) (sym (is-ax p k)) (ax-holds (num p) (right p) s)
 
-module _ (spell : ℕ → List ℕ) (name : ℕ → Bool) (globals goals : List Form) where
+module _ (spell : ℕ → List ℕ) (name : ℕ → Bool) (values : List ℕ) (globals goals : List Form) where
   -- place k of the lean counts 2 ^ k
-  pub lean-place : (t k : ℕ) → k < length (tableauOf spell name globals goals .ln)
-      → truth (tableauOf spell name globals goals .ln) t (getD (tableauOf spell name globals goals .ln) k tru) ≡ inType t k
+  pub lean-place : (t k : ℕ) → k < length (tableauOf spell name values globals goals .ln)
+      → truth (tableauOf spell name values globals goals .ln) t (getD (tableauOf spell name values globals goals .ln) k tru) ≡ inType t k
   unfolding tableauOf holds
   lean-place t k h =
       member (or-out (isLetter p) (isNext p) (lean-members spell cl p .0 (getD-in tru ln k h) .1))
-      ∙ ap (inType t) (index-place ln (lean-unique spell cl (closure-unique (globals ++ goals))) k h)
+      ∙ ap (inType t) (index-place ln (tableau-proper spell name values globals goals .once) k h)
     where
       cl : List Form
-      cl = closure (globals ++ goals)
+      cl = withValues values (closure (globals ++ goals))
 
       ln : List Form
       ln = lean spell cl

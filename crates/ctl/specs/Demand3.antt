@@ -11,7 +11,7 @@ use Rattle.ctl.specs.Lists.{_∈_}
 use Rattle.ctl.specs.Formula.{tru}
 use Rattle.ctl.specs.Raw.{Raw}
 use Rattle.ctl.specs.Positive.{positive, signed}
-use Rattle.ctl.specs.Snapshot.{Snapshot, NamesSingle}
+use Rattle.ctl.specs.Snapshot.{Snapshot, NamesSingle, Legal}
 use Rattle.ctl.specs.Meaning.{Holds, HoldsRaw}
 use Rattle.ctl.specs.Types.{inType}
 use Rattle.ctl.specs.Tableau.{Tableau, tableauOf, namings, obeys, startTypes}
@@ -31,14 +31,14 @@ abbrev pub GlobalsHold : List Raw → Snapshot → Type 0
 GlobalsHold globals s = (g : Raw) → g ∈ globals → (i : ℕ) → i < s .n → HoldsRaw s g i
 
 -- the tableau of a sheet with one goal
-unfoldable pub sheetTableau : (ℕ → List ℕ) → (ℕ → Bool) → List Raw → Raw → Tableau
+unfoldable pub sheetTableau : (ℕ → List ℕ) → (ℕ → Bool) → List ℕ → List Raw → Raw → Tableau
 unfolding tableauOf signed
-sheetTableau spell name globals goal = tableauOf spell name (map positive globals) (positive goal ∷ [])
+sheetTableau spell name values globals goal = tableauOf spell name values (map positive globals) (positive goal ∷ [])
 
--- `spell` gives the symbols' spellings, `name` says which symbols are names
-module _ (spell : ℕ → List ℕ) (name : ℕ → Bool) (globals : List Raw) (goal : Raw) where
+-- `spell` gives the symbols' spellings, `name` says which symbols are names, `values` are the declared values
+module _ (spell : ℕ → List ℕ) (name : ℕ → Bool) (values : List ℕ) (globals : List Raw) (goal : Raw) where
   abbrev S : Tableau
-  S = sheetTableau spell name globals goal
+  S = sheetTableau spell name values globals goal
 
   pub record Demand3 (answer : Verdict) : Type 0 where
     -- (a) unsatisfiable is said exactly when under no naming a surviving type makes the goal true
@@ -51,13 +51,13 @@ module _ (spell : ℕ → List ℕ) (name : ℕ → Bool) (globals : List Raw) (
     pub rounds-first : (r k : ℕ) → familyOf S r (suc k) ≡ familyOf S r k → roundsOf S r ≤ k
     pub surviving-is : (r : ℕ) → survivingTypes S r ≡ familyOf S r (roundsOf S r)
     pub rounds-few : (r : ℕ) → roundsOf S r ≤ length (startTypes S r) - length (survivingTypes S r)
-    -- (c) every node has one type; where every global holds at every node, each name is on at most one node and the naming fits, that type is there at the start, after every
-    -- round and at the end
+    -- (c) every node has one type; where every global holds at every node, the snapshot is legal (each name is on at most one node, each node holds exactly one of the values, if any
+    -- is declared) and the naming fits, that type is there at the start, after every round and at the end
     pub one-type : (s : Snapshot) (i : ℕ) → i < s .n → (t : ℕ) × NodeType S s i t × ((u : ℕ) → NodeType S s i u → u ≡ t)
-    pub at-start : (s : Snapshot) → NamesSingle name s → GlobalsHold globals s → (r : ℕ) → Fits S r s → (i t : ℕ) → i < s .n → NodeType S s i t → t ∈ startTypes S r
-    pub after-rounds : (s : Snapshot) → NamesSingle name s → GlobalsHold globals s → (r : ℕ) → Fits S r s → (i t : ℕ) → i < s .n → NodeType S s i t → (k : ℕ) → t ∈ familyOf S r k
-    pub at-end : (s : Snapshot) → NamesSingle name s → GlobalsHold globals s → (r : ℕ) → Fits S r s → (i t : ℕ) → i < s .n → NodeType S s i t → t ∈ survivingTypes S r
+    pub at-start : (s : Snapshot) → Legal name values s → GlobalsHold globals s → (r : ℕ) → Fits S r s → (i t : ℕ) → i < s .n → NodeType S s i t → t ∈ startTypes S r
+    pub after-rounds : (s : Snapshot) → Legal name values s → GlobalsHold globals s → (r : ℕ) → Fits S r s → (i t : ℕ) → i < s .n → NodeType S s i t → (k : ℕ) → t ∈ familyOf S r k
+    pub at-end : (s : Snapshot) → Legal name values s → GlobalsHold globals s → (r : ℕ) → Fits S r s → (i t : ℕ) → i < s .n → NodeType S s i t → t ∈ survivingTypes S r
     -- (d) some naming fits every snapshot in which each name is on at most one node
     pub some-naming : (s : Snapshot) → NamesSingle name s → (r : ℕ) × (r < namings S) × Fits S r s
-    -- (e) so after unsatisfiable no such snapshot where every global also holds at every node has the goal at any node
-    pub goal-nowhere : answer ≡ unsatisfiable → (s : Snapshot) → NamesSingle name s → GlobalsHold globals s → (i : ℕ) → i < s .n → ¬ HoldsRaw s goal i
+    -- (e) so after unsatisfiable no legal snapshot where every global holds at every node has the goal at any node
+    pub goal-nowhere : answer ≡ unsatisfiable → (s : Snapshot) → Legal name values s → GlobalsHold globals s → (i : ℕ) → i < s .n → ¬ HoldsRaw s goal i

@@ -60,4 +60,4 @@ module _ (letter : ℕ → ℕ) where
   unfolding formerLean closure signed
   formerTableau name globals goal =
       let c = closure (map positive globals ++ (positive goal ∷ [])) in
-      record { cl = c; ln = formerLean c; name = name; globals = map positive globals }
+      record { cl = c; ln = formerLean c; name = name; values = []; globals = map positive globals }

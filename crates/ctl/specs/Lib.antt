@@ -20,6 +20,7 @@ pub mod Tableau
 pub mod ClosedFamily
 pub mod Elimination
 pub mod Verdict
+pub mod Judging
 pub mod Demand3
 pub mod Evaluator
 pub mod Former

@@ -1,4 +1,5 @@
 -- Lists searched, kept and counted by a test, and the numbers below a bound. Assumes nothing.
+use mathlib.Core.Path.{_≡_}
 use mathlib.Core.Bool.{Bool, true, false, _&&_, _||_}
 use mathlib.Core.List.{List, [], _∷_, List·Memᴰ}
 use Prim.Native.Nat.{ℕ, zero, suc}
@@ -33,6 +34,10 @@ module _ {ℓ} {A : Type ℓ} where
   abbrev pub keep : (A → Bool) → List A → List A
   keep p [] = []
   keep p (x ∷ xs) = put (p x) x (keep p xs)
+
+-- if the list has any member, exactly one member has the property
+abbrev pub ExactlyOne : List ℕ → (ℕ → Type 0) → Type 0
+ExactlyOne l P = (v : ℕ) → v ∈ l → (k : ℕ) × (k ∈ l) × P k × ((j : ℕ) → j ∈ l → P j → j ≡ k)
 
 -- the number is in the list
 unfoldable pub elem : ℕ → List ℕ → Bool

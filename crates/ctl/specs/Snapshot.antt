@@ -5,6 +5,7 @@ use mathlib.Core.Bool.{Bool, true, cond, _&&_}
 use mathlib.Core.List.{List, []}
 use lib.Dec.{T, ltb, eqb}
 use lib.ListN.{length, getD}
+use Rattle.ctl.specs.Lists.{keep, below, ExactlyOne}
 
 -- Nodes are 0 to n - 1 (document 01 counts them from 1). `on k i`: symbol k is on node i. `to f i`: where field f leads from node i, suc j for node j and 0 for
 -- nowhere. A number past n leads nowhere too, so that every record is a snapshot.
@@ -29,7 +30,20 @@ Single s k = (i j : ℕ) → i < s .n → j < s .n → s .on k i ≡ true → s 
 abbrev pub NamesSingle : (ℕ → Bool) → Snapshot → Type 0
 NamesSingle name s = (k : ℕ) → T (name k) → Single s k
 
--- The snapshot of a list of lines, a node each, with the line's entries in line 1 order: 0 or 1 for marks and names, a node from 1 on or 0 for fields
+-- the declared values: those of so many symbols that are values, in line 1 order
+abbrev pub valuesOf : (ℕ → Bool) → ℕ → List ℕ
+valuesOf value count = keep value (below count)
+
+-- each node holds exactly one of the values, if any is declared
+abbrev pub ValuesSingle : List ℕ → Snapshot → Type 0
+ValuesSingle values s = (i : ℕ) → i < s .n → ExactlyOne values (λ k. s .on k i ≡ true)
+
+-- a snapshot that keeps the rules of a sheet's symbols
+pub record Legal (name : ℕ → Bool) (values : List ℕ) (s : Snapshot) : Type 0 where
+  pub names-single : NamesSingle name s
+  pub values-single : ValuesSingle values s
+
+-- The snapshot of a list of lines, a node each, with the line's entries in line 1 order: 0 or 1 for marks, names and values, a node from 1 on or 0 for fields
 abbrev pub entry : List (List ℕ) → ℕ → ℕ → ℕ
 entry lines k i = getD (getD lines i []) k 0
 

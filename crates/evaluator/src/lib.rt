@@ -64,11 +64,11 @@ fn cells(goal: u64, globals: u64, n: usize, row: &mut [u8])
 
 // The row of the snapshot with n nodes that a store holds: 1 where the goal holds, plus 2 where all globals do; later bytes stay.
 pub fn fill_row(out: &[u8], n: usize, ws: &[u64], goal: usize, globals: &[usize], row: &mut [u8])
-    requires { ⌜ (n ≤ 16) × ((n * 8 ≤ length (now out)) × ((length (now ws) ≤ 128) × Table (now ws))) ⌝ }
+    requires { ⌜ (n ≤ 16) × ((n * 8 ≤ length (now out)) × ((length (now ws) ≤ 136) × Table (now ws))) ⌝ }
     requires { ⌜ (n ≤ length (now row)) × ((goal < length (now ws)) × ((k : ℕ) → k < length (now globals) → getD (now globals) k 0 < length (now ws))) ⌝ }
     ensures { λ _. ⌜ now (row .exit) ≡ rowOf (ofStore n (now (out .entry))) (form (now (ws .entry)) goal) (map (form (now (ws .entry))) (now (globals .entry))) ++ drop n (now (row .entry)) ⌝ }
 {
-    let mut sets = [0u64; 128];
+    let mut sets = [0u64; 136];
     evaluate(out, n, ws, &mut sets);
     let g = set_at(&sets, goal);
     let a = all_of(&sets, globals, n);

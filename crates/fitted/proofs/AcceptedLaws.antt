@@ -12,8 +12,7 @@ use Rattle.ctl.specs.Verdict.{roundsOf, survivingTypes}
 use Rattle.sheet.specs.Reading.{formulas, goalOf}
 use Rattle.tableau.specs.Families.{Ready, Rounds, Survivors}
 use Rattle.truth.specs.Blocks.{listOf}
-use Rattle.links.specs.Links.{linkRoom}
-use Rattle.start.specs.Starts.{makesAll, startList}
+use Rattle.start.specs.Starts.{inBase, startList}
 use Rattle.tableau.specs.Tabled.{Tabled}
 use Rattle.truth.specs.Tables.{form, leanForms}
 use Rattle.tableau.specs.declared.table.Counts.{Counts}
@@ -26,10 +25,10 @@ use Rattle.wordset.specs.Words.{packed}
 use Rattle.ctl.specs.Lists.{elem}
 use Rattle.booking.specs.Booked.{tablesBy}
 use Rattle.booking.proofs.BookLaws.{tables-ext}
-use Rattle.frame.specs.Framed.{Framed, Sound}
-use Rattle.frame.specs.SetUp.{Accepts, SetUp, frameIn, globalsIn, leanIn, membersIn, namesIn, othersIn}
+use Rattle.frame.specs.Framed.{Framed}
+use Rattle.frame.specs.SetUp.{Accepts, SetUp, frameIn, globalsIn, leanIn, membersIn, namesIn, othersIn, valuesIn}
 use Rattle.frame.specs.declared.Setup.{Setup}
-use Rattle.frame.proofs.Stores.{fill-room, links-most}
+use Rattle.frame.proofs.Stores.{links-most}
 use Rattle.frame.proofs.VerdictLaws.{framed-verdict}
 use Rattle.fitted.specs.Accepted.{TabledIn, bookIn, verdictIn, wordsIn}
 
@@ -50,7 +49,7 @@ module _ {s : List ℕ} {u : Setup} (x : SetUp s u) (z : u .refusal ≡ 0) where
   accepts : Accepts s u
   accepts = x .accepts not-refused
 
-  framed : Framed S (positive (goalOf (formulas s))) (membersIn u) (leanIn u) (globalsIn u) (namesIn u) (othersIn u) (frameIn u)
+  framed : Framed S (positive (goalOf (formulas s))) (membersIn u) (leanIn u) (globalsIn u) (namesIn u) (othersIn u) (valuesIn u) (frameIn u)
   framed = accepts .framed
 
   pub members-within : u .count ≤ length (u .members)
@@ -58,9 +57,6 @@ module _ {s : List ℕ} {u : Setup} (x : SetUp s u) (z : u .refusal ≡ 0) where
 
   pub lean-within : u .width ≤ length (u .lean)
   lean-within = accepts .lean-within
-
-  pub globals-within : u .globals ≤ length (u .everywhere)
-  globals-within = accepts .globals-within
 
   pub names-within : u .names ≤ length (u .named)
   names-within = accepts .names-within
@@ -96,7 +92,7 @@ module _ {s : List ℕ} {u : Setup} (x : SetUp s u) (z : u .refusal ≡ 0) where
   -- what a store holds that has a naming's surviving types in its first words
   pub store-lists : (r : ℕ) (d d′ : List ℕ) → u .words ≤ length d → d′ ≡ packed (wordsIn s) (λ t. elem t (survivingTypes S r)) d → listOf (u .words) d′ ≡ survivingTypes S r
   store-lists r d d′ h e =
-      store-types (framed .matches) (u .words) (replicate 4 0) (packed (u .words) (makesAll (membersIn u) (leanIn u) (globalsIn u)) (replicate 4 0)) few-words refl (framed .enough) r d d′ h
+      store-types (framed .matches) (u .words) (replicate 4 0) (packed (u .words) (inBase (membersIn u) (leanIn u) (globalsIn u) (valuesIn u)) (replicate 4 0)) few-words refl (framed .enough) r d d′ h
       (e ∙ ap (λ w. packed w (λ t. elem t (survivingTypes S r)) d) (sym words-are))
 
   pub few-namings : u .namings ≤ 65536
@@ -108,11 +104,11 @@ module _ {s : List ℕ} {u : Setup} (x : SetUp s u) (z : u .refusal ≡ 0) where
   pub links-within : u .links ≤ 16400
   links-within = links-most accepts
 
-  pub words-asked : (t l b : ℕ) → t ≡ 256 → u .links ≤ l → b ≡ 4
-      → Sound (membersIn u) (leanIn u) (globalsIn u) × ((u .words ≤ 4) × (length (membersIn u) * u .words ≤ t) × (linkRoom (membersIn u) (u .words) ≤ l) × (u .words ≤ b))
-  words-asked = fill-room accepts
+  -- what filling them asks
+  pub words-asked : (t l b : ℕ) → t ≡ 288 → u .links ≤ l → b ≡ 4 → ((q : List ℕ) × Accepts q u) × ((288 ≤ t) × (u .links ≤ l) × (4 ≤ b))
+  words-asked t l b e h i = ((s, accepts), (omega arith, h, omega arith))
 
-  module _ {tw lw : List ℕ} (base₀ : List ℕ) {base : List ℕ} (f : Ready (membersIn u) (leanIn u) (u .words) tw lw × (base ≡ packed (u .words) (makesAll (membersIn u) (leanIn u) (globalsIn u)) base₀)) (l₀ : length base₀ ≡ 4) (l : length base ≡ 4) where
+  module _ {tw lw : List ℕ} (base₀ : List ℕ) {base : List ℕ} (f : Ready (membersIn u) (leanIn u) (u .words) tw lw × (base ≡ packed (u .words) (inBase (membersIn u) (leanIn u) (globalsIn u) (valuesIn u)) base₀)) (l₀ : length base₀ ≡ 4) (l : length base ≡ 4) where
     enough-base : u .words ≤ length base₀
     enough-base = let w = few-words in omega arith
 

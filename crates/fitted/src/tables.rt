@@ -23,20 +23,11 @@ fn table_in(
     let w = u.words;
     let members = u.members;
     let lean = u.lean;
-    let everywhere = u.everywhere;
     let named = u.named;
     let unnamed = u.unnamed;
-    let mut tw = [0u64; 256];
+    let mut tw = [0u64; 288];
     let mut base = [0u64; 4];
-    frame::fill(
-        &members[..u.count],
-        &lean[..u.width],
-        w,
-        &everywhere[..u.globals],
-        &mut tw,
-        lw,
-        &mut base,
-    );
+    frame::fill(u, &mut tw, lw, &mut base);
     judge::fill_table(
         &members[..u.count],
         &lean[..u.width],

@@ -16,20 +16,11 @@ fn judge_in(sheet: &[u8], u: Setup, lw: &mut [u64]) -> Verdict
 {
     let members = u.members;
     let lean = u.lean;
-    let everywhere = u.everywhere;
     let named = u.named;
     let unnamed = u.unnamed;
-    let mut tw = [0u64; 256];
+    let mut tw = [0u64; 288];
     let mut base = [0u64; 4];
-    frame::fill(
-        &members[..u.count],
-        &lean[..u.width],
-        u.words,
-        &everywhere[..u.globals],
-        &mut tw,
-        lw,
-        &mut base,
-    );
+    frame::fill(u, &mut tw, lw, &mut base);
     let mut first = [0u64; 4];
     let mut second = [0u64; 4];
     let mut among = [0u64; 4];

@@ -1,5 +1,6 @@
 -- What finding a frame asks at each call, and that what the calls give is the sheet's tableau. Assumes nothing.
 use mathlib.Core.Path.{_≡_, sym, ap, ap₂, _∙_, subst}
+use mathlib.Core.Bool.{true, false}
 use mathlib.Core.List.{List, map}
 use Prim.Native.Nat.{ℕ, zero, suc, _-_, _*_, _^_, _≤_, _<_}
 use native.Mathlib.Omega.{arith}
@@ -8,34 +9,40 @@ use lib.Pow.{pow-mono}
 use lib.Seq.{getD-take, length-take-le}
 use Rattle.ctl.proofs.ListLaws.{getD-in}
 use Rattle.ctl.specs.Positive.{positive}
-use Rattle.ctl.specs.Tableau.{Tableau, namePlaces, namings, otherPlaces}
+use Rattle.ctl.specs.Tableau.{Tableau, namePlaces, namings, otherPlaces, valuePlaces}
 use Rattle.sheet.specs.Refusal.{readRefusal}
 use Rattle.sheet.specs.Reading.{formulas, goalOf, globalsOf}
 use Rattle.truth.specs.Tables.{Leans, Table, form}
 use Rattle.links.specs.Links.{linkRoom}
 use Rattle.reader.specs.declared.Reading.{Reading}
 use Rattle.reader.specs.Reader.{Says}
-use Rattle.prepare.specs.declared.Split.{Split}
 use Rattle.prepare.specs.Prepared.{kindsOf, leanOf, tableOf, tableauIn}
-use Rattle.prepare.specs.Split.{Splits, SplitIs}
+use Rattle.prepare.specs.Places.{placesBy, Sought, Found}
 use Rattle.prepare.specs.Width.{WordsFor}
 use Rattle.prepare.proofs.Bridge.{ex-places, formulas-some, global-inside, globals-map, goal, goal-inside, lean-length, leans, table, table-length, tableau-lean}
-use Rattle.prepare.proofs.SplitBridge.{names-are, names-held, others-are, others-held, split-matches, splits}
-use Rattle.prepare.proofs.NameCount.{name-below, names-two, other-below, others-few}
+use Rattle.prepare.proofs.PlaceBridge.{names-are, others-are, values-are, held, found-matches, sought}
+use Rattle.prepare.proofs.NameCount.{name-below, names-two, other-below, others-few, value-below, values-few}
 use Rattle.judge.specs.Judged.{Places}
 use Rattle.frame.specs.Framed.{Framed, FramedAs, Frames, Given, Sound}
 use Rattle.frame.proofs.CopyLaws.{few-bits}
 
 -- ---- lists and numbers
 
--- at most 4 words for each of at most 64 members
-truth-room : (n w : ℕ) → n ≤ 64 → w ≤ 4 → n * w ≤ 256
+-- at most 4 words for each of at most 64 closure members and 8 values
+truth-room : (n w : ℕ) → n ≤ 72 → w ≤ 4 → n * w ≤ 288
 truth-room n zero h k = omega arith
 truth-room n (suc zero) h k = omega arith
 truth-room n (suc (suc zero)) h k = omega arith
 truth-room n (suc (suc (suc zero))) h k = omega arith
 truth-room n (suc (suc (suc (suc zero)))) h k = omega arith
 truth-room n (suc (suc (suc (suc (suc w))))) h k = absurd (omega arith)
+
+-- ---- the three lists of places, each in its store
+
+pub record Parts (ms ln kinds names others values names′ others′ values′ : List ℕ) (k m v : ℕ) : Type 0 where
+  pub names-found : Found (placesBy true 2 ms ln kinds) names names′ k
+  pub others-found : Found (placesBy false 2 ms ln kinds) others others′ m
+  pub values-found : Found (placesBy true 4 ms ln kinds) values values′ v
 
 -- ---- of a reading itself
 
@@ -91,19 +98,40 @@ module _ (s : List ℕ) (r : Reading) (x : Says s r) (z : readRefusal s ≡ 0) w
         globals-map s r x z globals (omega arith)
         (λ j h. ap (λ l. getD l j 0) e ∙ getD-take (length ps - 1) ps j 0 (omega arith) ∙ place-is j (omega arith))
 
-  module _ (narrow : length ln ≤ 8) {names others names′ others′ : List ℕ} {q : Split} (y : SplitIs ms ln ks names others names′ others′ q) where
-    name-count : q .names ≡ length (namePlaces S)
-    name-count = y .names-many ∙ ap length (names-are s r x z)
+  module _ (narrow : length ln ≤ 8) {names others values names′ others′ values′ : List ℕ} {k m v : ℕ} (y : Parts ms ln ks names others values names′ others′ values′ k m v) where
+    name-count : k ≡ length (namePlaces S)
+    name-count = y .names-found .many ∙ ap length (names-are s r x z)
 
-    other-count : q .others ≡ length (otherPlaces S)
-    other-count = y .others-many ∙ ap length (others-are s r x z)
+    other-count : m ≡ length (otherPlaces S)
+    other-count = y .others-found .many ∙ ap length (others-are s r x z)
 
-    split-few : (q .names ≤ 2) × (q .others ≤ 8)
-    split-few = let a = name-count in let b = other-count in let c = names-two s in let d = others-few s in let e = tableau-width in (omega arith, omega arith)
+    value-count : v ≡ length (valuePlaces S)
+    value-count = y .values-found .many ∙ ap length (values-are s r x z)
 
-    namings-is : 2 ^ (q .others * q .names) ≡ namings S
+    parts-few : (k ≤ 2) × (m ≤ 8) × (v ≤ 8)
+    parts-few =
+        let a = name-count in
+        let b = other-count in
+        let c = value-count in
+        let d = names-two s in
+        let e = others-few s in
+        let f = values-few s in
+        let g = tableau-width in
+        (omega arith, omega arith, omega arith)
+
+    namings-is : 2 ^ (m * k) ≡ namings S
     unfolding namings
     namings-is = ap₂ (λ a b. 2 ^ (a * b)) other-count name-count
+
+    -- what holds of the tableau's places holds of those that were found
+    names-held : take k names′ ≡ namePlaces S
+    names-held = held s r x (y .names-found) ∙ names-are s r x z
+
+    others-held : take m others′ ≡ otherPlaces S
+    others-held = held s r x (y .others-found) ∙ others-are s r x z
+
+    values-held : take v values′ ≡ valuePlaces S
+    values-held = held s r x (y .values-found) ∙ values-are s r x z
 
     tableau-places : Places (namePlaces S) (otherPlaces S)
     tableau-places =
@@ -116,25 +144,29 @@ module _ (s : List ℕ) (r : Reading) (x : Says s r) (z : readRefusal s ≡ 0) w
           others-in = λ i h. (let b = other-below s (getD (otherPlaces S) i 0) (getD-in 0 (otherPlaces S) i h) in omega arith);
         }
 
-    split-places : Places (take (q .names) names′) (take (q .others) others′)
-    split-places = subst (λ l. Places l (take (q .others) others′)) (sym (names-held s r x z y)) (subst (λ l. Places (namePlaces S) l) (sym (others-held s r x z y)) tableau-places)
+    found-places : Places (take k names′) (take m others′)
+    found-places = subst (λ l. Places l (take m others′)) (sym names-held) (subst (λ l. Places (namePlaces S) l) (sym others-held) tableau-places)
 
-    module _ (many : length ps ≡ r .formulas) (small : length ms ≤ 64) {w l n : ℕ} (globals′ : List ℕ) (wide : WordsFor (length ln) w) (el : l ≡ linkRoom ms w) (eg : take (length ps - 1) globals′ ≡ take (length ps - 1) ps) (en : n ≡ 2 ^ (q .others * q .names)) where
+    values-low : (i : ℕ) → i < length (take v values′) → getD (take v values′) i 0 ≤ 60
+    values-low = subst (λ l. (i : ℕ) → i < length l → getD l i 0 ≤ 60) (sym values-held) (λ i h. (let e = tableau-width in let b = value-below s (getD (valuePlaces S) i 0) (getD-in 0 (valuePlaces S) i h) in omega arith))
+
+    module _ (many : length ps ≡ r .formulas) (small : length ms ≤ 72) {w l n : ℕ} (globals′ : List ℕ) (wide : WordsFor (length ln) w) (el : l ≡ linkRoom ms w) (eg : take (length ps - 1) globals′ ≡ take (length ps - 1) ps) (en : n ≡ 2 ^ (m * k)) where
       abbrev globals : List ℕ
       globals = take (length ps - 1) globals′
 
-      read-sound : Sound ms ln globals
+      read-sound : Sound ms ln globals (take v values′)
       read-sound = record {
         table = table s r x;
         leans = leans s r x (let a = lean-length s r x in omega arith);
         places = ex-places s r x;
         globals-in = before-in many globals eg;
+        values-in = values-low;
       }
 
-      framed-read : r .formulas ≤ 5 → Framed S (positive (goalOf (formulas s))) ms ln globals (take (q .names) names′) (take (q .others) others′) (record { words = w; links = l; globals = length ps - 1; names = q .names; others = q .others; goal = getD ps (length ps - 1) 0; namings = n })
+      framed-read : r .formulas ≤ 5 → Framed S (positive (goalOf (formulas s))) ms ln globals (take k names′) (take m others′) (take v values′) (record { words = w; links = l; globals = length ps - 1; names = k; others = m; values = v; goal = getD ps (length ps - 1) 0; namings = n })
       framed-read few = record {
         sound = read-sound;
-        matches = split-matches s r x z y globals (before-map many globals eg);
+        matches = found-matches s r x z (held s r x (y .names-found)) (held s r x (y .others-found)) (held s r x (y .values-found)) globals (before-map many globals eg);
         enough = wide .enough;
         few-words = (wide .some, wide .few);
         no-more = wide .tight;
@@ -143,10 +175,10 @@ module _ (s : List ℕ) (r : Reading) (x : Says s r) (z : readRefusal s ≡ 0) w
         goal-inside = last-inside many;
         goal-is = last-form many;
         namings-are = en ∙ namings-is;
-        few-namings = subst (λ m. m ≤ 65536) (sym en) (pow-mono (few-bits (q .names) (q .others) (split-few .0) (split-few .1)));
+        few-namings = subst (λ m. m ≤ 65536) (sym en) (pow-mono (few-bits k m (parts-few .0) (parts-few .1)));
         few-globals = omega arith;
-        few-places = split-few;
-        places-in = split-places;
+        few-places = parts-few;
+        places-in = found-places;
       }
 
 -- ---- of lists that are a reading's
@@ -181,28 +213,28 @@ module _ {ms ln kinds places s : List ℕ} {r : Reading} (g : Given ms ln kinds 
   given-before : (j : ℕ) → j < length places - 1 → getD places j 0 < length ms
   given-before = given-by (λ m l k p. (j : ℕ) → j < length p - 1 → getD p j 0 < length m) (before-inside s r (g .says) (g .read) given-many)
 
-  given-few : length ln ≤ 8 → {names others names′ others′ : List ℕ} {q : Split} → SplitIs ms ln kinds names others names′ others′ q → (q .names ≤ 2) × (q .others ≤ 8)
-  given-few h {names} {others} {names′} {others′} {q} =
-      given-by (λ m l k p. length l ≤ 8 → SplitIs m l k names others names′ others′ q → (q .names ≤ 2) × (q .others ≤ 8)) (λ a y. split-few s r (g .says) (g .read) a y) h
+  given-few : length ln ≤ 8 → {names others values names′ others′ values′ : List ℕ} {k m v : ℕ} → Parts ms ln kinds names others values names′ others′ values′ k m v → (k ≤ 2) × (m ≤ 8)
+  given-few h {names} {others} {values} {names′} {others′} {values′} {k} {m} {v} =
+      given-by (λ a b c p. length b ≤ 8 → Parts a b c names others values names′ others′ values′ k m v → (k ≤ 2) × (m ≤ 8)) (λ n y. (let f = parts-few s r (g .says) (g .read) n y in (f .0, f .1))) h
 
-  given-splits : (names others : List ℕ) → length ln ≤ 8 → 8 ≤ length names → 8 ≤ length others → Splits ms ln names others
-  given-splits names others h i j = let a = given-width in given-by (λ m l k p. Splits m l names others) (splits s r (g .says) names others (omega arith) (omega arith) (omega arith))
+  given-sought : (store : List ℕ) → length ln ≤ 8 → 8 ≤ length store → Sought ms ln store
+  given-sought store h i = let a = given-width in given-by (λ m l k p. Sought m l store) (sought s r (g .says) store (omega arith) (omega arith))
 
-  pub given-framed : length ln ≤ 8 → length ms ≤ 64 → r .formulas ≤ 5 → {w l n : ℕ} (globals′ : List ℕ) {names others names′ others′ : List ℕ} {q : Split} → WordsFor (length ln) w → l ≡ linkRoom ms w
-      → take (length places - 1) globals′ ≡ take (length places - 1) places → SplitIs ms ln kinds names others names′ others′ q → n ≡ 2 ^ (q .others * q .names)
-      → Framed (tableauIn s) (positive (goalOf (formulas s))) ms ln (take (length places - 1) globals′) (take (q .names) names′) (take (q .others) others′) (record { words = w; links = l; globals = length places - 1; names = q .names; others = q .others; goal = getD places (length places - 1) 0; namings = n })
-  given-framed h i few {w} {l} {n} globals′ {names} {others} {names′} {others′} {q} wide el eg y en =
-      given-by (λ m e k p. length e ≤ 8 → length m ≤ 64 → WordsFor (length e) w → l ≡ linkRoom m w → take (length p - 1) globals′ ≡ take (length p - 1) p → SplitIs m e k names others names′ others′ q
-      → Framed (tableauIn s) (positive (goalOf (formulas s))) m e (take (length p - 1) globals′) (take (q .names) names′) (take (q .others) others′) (record { words = w; links = l; globals = length p - 1; names = q .names; others = q .others; goal = getD p (length p - 1) 0; namings = n }))
+  pub given-framed : length ln ≤ 8 → length ms ≤ 72 → r .formulas ≤ 5 → {w l n : ℕ} (globals′ : List ℕ) {names others values names′ others′ values′ : List ℕ} {k m v : ℕ} → WordsFor (length ln) w → l ≡ linkRoom ms w
+      → take (length places - 1) globals′ ≡ take (length places - 1) places → Parts ms ln kinds names others values names′ others′ values′ k m v → n ≡ 2 ^ (m * k)
+      → Framed (tableauIn s) (positive (goalOf (formulas s))) ms ln (take (length places - 1) globals′) (take k names′) (take m others′) (take v values′) (record { words = w; links = l; globals = length places - 1; names = k; others = m; values = v; goal = getD places (length places - 1) 0; namings = n })
+  given-framed h i few {w} {l} {n} globals′ {names} {others} {values} {names′} {others′} {values′} {k} {m} {v} wide el eg y en =
+      given-by (λ a e c p. length e ≤ 8 → length a ≤ 72 → WordsFor (length e) w → l ≡ linkRoom a w → take (length p - 1) globals′ ≡ take (length p - 1) p → Parts a e c names others values names′ others′ values′ k m v
+      → Framed (tableauIn s) (positive (goalOf (formulas s))) a e (take (length p - 1) globals′) (take k names′) (take m others′) (take v values′) (record { words = w; links = l; globals = length p - 1; names = k; others = m; values = v; goal = getD p (length p - 1) 0; namings = n }))
       (λ a b c d e f. framed-read s r (g .says) (g .read) a f given-many b globals′ c d e en few) h i wide el eg y
 
 -- ---- call by call
 
-module _ {ms ln kinds places globals names others : List ℕ} (x : Frames ms ln kinds places globals names others) where
+module _ {ms ln kinds places globals names others values : List ℕ} (x : Frames ms ln kinds places globals names others values) where
   pub frame-narrow : length ln ≤ 8
   frame-narrow = let a = given-width (x .given) in let b = x .narrow in omega arith
 
-  frame-small : length ms ≤ 64
+  frame-small : length ms ≤ 72
   frame-small = let a = given-count (x .given) in let b = x .small in omega arith
 
   pub frame-any : 1 ≤ length places
@@ -218,13 +250,22 @@ module _ {ms ln kinds places globals names others : List ℕ} (x : Frames ms ln 
       let b = x .globals-room in
       ((omega arith, omega arith), λ j h. (let c = given-before (x .given) j h in omega arith))
 
-  pub split-asks : Splits ms ln names others
-  split-asks = given-splits (x .given) names others frame-narrow (x .names-room) (x .others-room)
+  pub names-sought : Sought ms ln names
+  names-sought = given-sought (x .given) names frame-narrow (x .names-room)
 
-  pub count-asks : {names₁ others₁ names′ others′ : List ℕ} {q : Split} → SplitIs ms ln kinds names₁ others₁ names′ others′ q → (q .names ≤ 2) × (q .others ≤ 8)
-  count-asks y = given-few (x .given) frame-narrow y
+  pub others-sought : Sought ms ln others
+  others-sought = given-sought (x .given) others frame-narrow (x .others-room)
 
-  pub frame-is : {w l n : ℕ} (globals′ : List ℕ) {names′ others′ : List ℕ} {q : Split} → WordsFor (length ln) w → l ≡ linkRoom ms w → take (length places - 1) globals′ ≡ take (length places - 1) places
-      → SplitIs ms ln kinds names others names′ others′ q → n ≡ 2 ^ (q .others * q .names)
-      → FramedAs ms ln kinds places globals′ names′ others′ (record { words = w; links = l; globals = length places - 1; names = q .names; others = q .others; goal = getD places (length places - 1) 0; namings = n })
-  frame-is globals′ wide el eg y en = λ s r g. given-framed g frame-narrow frame-small (let a = frame-few in let b = g .many in omega arith) globals′ wide el eg y en
+  pub values-sought : Sought ms ln values
+  values-sought = given-sought (x .given) values frame-narrow (x .values-room)
+
+  module _ {names′ others′ values′ : List ℕ} {k m v : ℕ} (a : Found (placesBy true 2 ms ln kinds) names names′ k) (b : Found (placesBy false 2 ms ln kinds) others others′ m) (c : Found (placesBy true 4 ms ln kinds) values values′ v) where
+    parts : Parts ms ln kinds names others values names′ others′ values′ k m v
+    parts = record { names-found = a; others-found = b; values-found = c }
+
+    pub count-asks : (k ≤ 2) × (m ≤ 8)
+    count-asks = given-few (x .given) frame-narrow parts
+
+    pub frame-is : {w l n : ℕ} (globals′ : List ℕ) → WordsFor (length ln) w → l ≡ linkRoom ms w → take (length places - 1) globals′ ≡ take (length places - 1) places → n ≡ 2 ^ (m * k)
+        → FramedAs ms ln kinds places globals′ names′ others′ values′ (record { words = w; links = l; globals = length places - 1; names = k; others = m; values = v; goal = getD places (length places - 1) 0; namings = n })
+    frame-is globals′ wide el eg en = λ s r g. given-framed g frame-narrow frame-small (let a = frame-few in let b = g .many in omega arith) globals′ wide el eg parts en

@@ -4,11 +4,18 @@ use mathlib.Core.List.{List}
 use mathlib.Core.Logic.{_⊎_, inl, inr}
 use Prim.Native.Nat.{ℕ, _≤_, _<_}
 use native.Mathlib.Omega.{arith}
-use lib.ListN.{length, length-map, take}
+use lib.Dec.{eqb}
+use lib.ListN.{length, getD, length-map, take}
 use lib.Seq.{length-take-le}
+use Rattle.ctl.specs.Lists.{below}
+use Rattle.ctl.proofs.ListLaws.{keep-length, length-count}
+use Rattle.ctl.proofs.LeanOrder.{with-length}
 use Rattle.wordset.proofs.BelowLaws.{lt-or-le}
+use Rattle.head.specs.Head.{kinds}
+use Rattle.head.proofs.Spellings.{sheet-spellings}
+use Rattle.sheet.proofs.RefusalLaws.{right-kinds}
 use Rattle.sheet.specs.Refusal.{readRefusal}
-use Rattle.sheet.specs.Reading.{formulas}
+use Rattle.sheet.specs.Reading.{formulas, valuesIn}
 use Rattle.sheet.proofs.SizeLaws.{formulas-many, texts-five}
 use Rattle.reader.specs.declared.Reading.{Reading}
 use Rattle.reader.specs.Reader.{ReadIs, Says, members, numberOf, places, refusalOf}
@@ -69,22 +76,35 @@ module _ {s : List ℕ} {r : Reading} (x : ReadIs 64 8 s r) {k : ℕ} (e : k ≡
     given : length (r .places) ≡ 5 → Given (tableOf r) (leanOf r) (kindsOf r) (take (r .formulas) (r .places)) s r
     given a = record { says = says; read = right; table-is = refl; lean-is = refl; kinds-are = refl; places-are = refl; many = length-take-le (r .formulas) (r .places) (formulas-within a) }
 
-    pub frame-asked : {globals names others : List ℕ} → length (r .places) ≡ 5 → length globals ≡ 8 → length names ≡ 8 → length others ≡ 8
-        → Frames (tableOf r) (leanOf r) (kindsOf r) (take (r .formulas) (r .places)) globals names others
-    frame-asked a b c d = record {
+    -- the closure's members and the values that do not occur
+    table-few : r .count ≤ 72
+    table-few =
+        let a = members-few in
+        let b = says .tabled .count in
+        let c = with-length (members s) (valuesIn s) in
+        let d = keep-length (λ k. eqb (getD (kinds s) k 0) 4) (below (length (kinds s))) in
+        let e = length-count 0 (length (kinds s)) in
+        let f = right-kinds s right in
+        let g = sheet-spellings s .few in
+        omega arith
+
+    pub frame-asked : {globals names others values : List ℕ} → length (r .places) ≡ 5 → length globals ≡ 8 → length names ≡ 8 → length others ≡ 8 → length values ≡ 8
+        → Frames (tableOf r) (leanOf r) (kindsOf r) (take (r .formulas) (r .places)) globals names others values
+    frame-asked a b c d e = record {
       sheet = s;
       reading = r;
       given = given a;
       few = formulas-five;
       narrow = lean-few;
-      small = (let m = members-few in let n = says .tabled .count in omega arith);
+      small = table-few;
       globals-room = omega arith;
       names-room = omega arith;
       others-room = omega arith;
+      values-room = omega arith;
     }
 
-    pub setup-accepted : {globals′ names′ others′ : List ℕ} {f : Frame} → length (r .places) ≡ 5
-        → FramedAs (tableOf r) (leanOf r) (kindsOf r) (take (r .formulas) (r .places)) globals′ names′ others′ f → length globals′ ≡ 8 → length names′ ≡ 8 → length others′ ≡ 8
+    pub setup-accepted : {globals′ names′ others′ values′ : List ℕ} {f : Frame} → length (r .places) ≡ 5
+        → FramedAs (tableOf r) (leanOf r) (kindsOf r) (take (r .formulas) (r .places)) globals′ names′ others′ values′ f → length globals′ ≡ 8 → length names′ ≡ 8 → length others′ ≡ 8 → length values′ ≡ 8
         → SetUp s (record {
           refusal = 0;
           count = r .count;
@@ -97,12 +117,14 @@ module _ {s : List ℕ} {r : Reading} (x : ReadIs 64 8 s r) {k : ℕ} (e : k ≡
           named = names′;
           others = f .others;
           unnamed = others′;
+          values = f .values;
+          valued = values′;
           words = f .words;
           links = f .links;
           goal = f .goal;
           namings = f .namings;
         })
-    setup-accepted {globals′} {names′} {others′} {f} a y b c d = record {
+    setup-accepted {globals′} {names′} {others′} {values′} {f} a y b c d e = record {
       is = sym zero-is;
       accepts = λ z. (let x = y s r (given a) in
           let m = x .few-globals in
@@ -114,5 +136,6 @@ module _ {s : List ℕ} {r : Reading} (x : ReadIs 64 8 s r) {k : ℕ} (e : k ≡
             globals-within = omega arith;
             names-within = omega arith;
             others-within = omega arith;
+            values-within = omega arith;
           });
     }

@@ -9,11 +9,11 @@ use Rattle.links.specs.Links.{Rows, linkRoom}
 use Rattle.truth.specs.Truths.{Truths}
 use Rattle.links.proofs.LinkWords.{link-room-within}
 use Rattle.frame.specs.Framed.{Sound}
-use Rattle.frame.specs.SetUp.{Accepts, globalsIn, leanIn, membersIn}
+use Rattle.frame.specs.SetUp.{Accepts, globalsIn, leanIn, membersIn, valuesIn}
 use Rattle.frame.specs.declared.Setup.{Setup}
 
 -- what the elimination goes by
-pub ready-by : {ms ln globals tw lw : List ℕ} {w : ℕ} → Sound ms ln globals → w ≤ 4 → Truths ms ln w tw → Rows ms ln w lw → Ready ms ln w tw lw
+pub ready-by : {ms ln globals values tw lw : List ℕ} {w : ℕ} → Sound ms ln globals values → w ≤ 4 → Truths ms ln w tw → Rows ms ln w lw → Ready ms ln w tw lw
 ready-by s h t r = record { table = s .table; leans = s .leans; small = omega arith; truths = t; rows = r; places = s .places }
 
 module _ {s : List ℕ} {u : Setup} (a : Accepts s u) where
@@ -21,9 +21,9 @@ module _ {s : List ℕ} {u : Setup} (a : Accepts s u) where
   pub links-most : u .links ≤ 16400
   links-most = let f = a .framed in subst (λ n. n ≤ 16400) (sym (f .links-are)) (link-room-within (membersIn u) (u .words) (f .few-words .1))
 
-  pub fill-room : (t l b : ℕ) → t ≡ 256 → u .links ≤ l → b ≡ 4
-      → Sound (membersIn u) (leanIn u) (globalsIn u) × ((u .words ≤ 4) × (length (membersIn u) * u .words ≤ t) × (linkRoom (membersIn u) (u .words) ≤ l) × (u .words ≤ b))
-  fill-room t l b e h i =
+  pub fill-asks : (t l b : ℕ) → 288 ≤ t → u .links ≤ l → 4 ≤ b
+      → Sound (membersIn u) (leanIn u) (globalsIn u) (valuesIn u) × ((u .words ≤ 4) × (length (membersIn u) * u .words ≤ t) × (linkRoom (membersIn u) (u .words) ≤ l) × (u .words ≤ b))
+  fill-asks t l b e h i =
       let f = a .framed in
       let w = f .few-words .1 in
       let m = f .few-truths in

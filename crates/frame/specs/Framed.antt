@@ -29,43 +29,45 @@ pub record Given (ms ln kinds places : List ℕ) (s : List ℕ) (r : Reading) : 
   pub many : length places ≡ r .formulas
 
 -- what is asked: these, within their limits, and room in the stores
-pub record Frames (ms ln kinds places globals names others : List ℕ) : Type 0 where
+pub record Frames (ms ln kinds places globals names others values : List ℕ) : Type 0 where
   pub sheet : List ℕ
   pub reading : Reading
   pub given : Given ms ln kinds places sheet reading
   pub few : reading .formulas ≤ 5
   pub narrow : reading .width ≤ 8
-  pub small : reading .count ≤ 64
+  pub small : reading .count ≤ 72
   pub globals-room : 8 ≤ length globals
   pub names-room : 8 ≤ length names
   pub others-room : 8 ≤ length others
+  pub values-room : 8 ≤ length values
 
--- a table with its lean, in which each EX over one mode has a place, and globals of it
-pub record Sound (ms ln globals : List ℕ) : Type 0 where
+-- a table with its lean, in which each EX over one mode has a place, globals of it, and value places
+pub record Sound (ms ln globals values : List ℕ) : Type 0 where
   pub table : Table ms
   pub leans : Leans ms ln
   pub places : ExPlaced ms ln
   pub globals-in : (i : ℕ) → i < length globals → getD globals i 0 < length ms
+  pub values-in : (i : ℕ) → i < length values → getD values i 0 ≤ 60
 
 -- and what is given
-pub record Framed (S : Tableau) (goal : Form) (ms ln globals names others : List ℕ) (f : Frame) : Type 0 where
-  pub sound : Sound ms ln globals
-  pub matches : Matches S ms ln globals names others
+pub record Framed (S : Tableau) (goal : Form) (ms ln globals names others values : List ℕ) (f : Frame) : Type 0 where
+  pub sound : Sound ms ln globals values
+  pub matches : Matches S ms ln globals names others values
   pub enough : 2 ^ length ln ≤ f .words * 64
   pub few-words : (1 ≤ f .words) × (f .words ≤ 4)
   pub no-more : f .words * 64 ≤ max 64 (2 ^ length ln)
-  pub few-truths : length ms * f .words ≤ 256
+  pub few-truths : length ms * f .words ≤ 288
   pub links-are : f .links ≡ linkRoom ms (f .words)
   pub goal-inside : f .goal < length ms
   pub goal-is : form ms (f .goal) ≡ goal
   pub namings-are : f .namings ≡ namings S
   pub few-namings : f .namings ≤ 65536
   pub few-globals : f .globals ≤ 8
-  pub few-places : (f .names ≤ 2) × (f .others ≤ 8)
+  pub few-places : (f .names ≤ 2) × (f .others ≤ 8) × (f .values ≤ 8)
   pub places-in : Places names others
 
 -- for whichever sheet and reading they are of
-abbrev pub FramedAs : List ℕ → List ℕ → List ℕ → List ℕ → List ℕ → List ℕ → List ℕ → Frame → Type 0
-FramedAs ms ln kinds places globals′ names′ others′ f =
+abbrev pub FramedAs : List ℕ → List ℕ → List ℕ → List ℕ → List ℕ → List ℕ → List ℕ → List ℕ → Frame → Type 0
+FramedAs ms ln kinds places globals′ names′ others′ values′ f =
     (s : List ℕ) (r : Reading) → Given ms ln kinds places s r
-    → Framed (tableauIn s) (positive (goalOf (formulas s))) ms ln (take (f .globals) globals′) (take (f .names) names′) (take (f .others) others′) f
+    → Framed (tableauIn s) (positive (goalOf (formulas s))) ms ln (take (f .globals) globals′) (take (f .names) names′) (take (f .others) others′) (take (f .values) values′) f

@@ -16,7 +16,7 @@ abbrev pub nothingBy : ℕ → Setup
 nothingBy k = record {
   refusal = k;
   count = 0;
-  members = replicate 128 0;
+  members = replicate 136 0;
   width = 0;
   lean = replicate 12 0;
   globals = 0;
@@ -25,6 +25,8 @@ nothingBy k = record {
   named = replicate 8 0;
   others = 0;
   unnamed = replicate 8 0;
+  values = 0;
+  valued = replicate 8 0;
   words = 0;
   links = 0;
   goal = 0;
@@ -47,17 +49,21 @@ namesIn r = take (r .names) (r .named)
 abbrev pub othersIn : Setup → List ℕ
 othersIn r = take (r .others) (r .unnamed)
 
+abbrev pub valuesIn : Setup → List ℕ
+valuesIn r = take (r .values) (r .valued)
+
 abbrev pub frameIn : Setup → Frame
-frameIn r = record { words = r .words; links = r .links; globals = r .globals; names = r .names; others = r .others; goal = r .goal; namings = r .namings }
+frameIn r = record { words = r .words; links = r .links; globals = r .globals; names = r .names; others = r .others; values = r .values; goal = r .goal; namings = r .namings }
 
 -- that of a sheet which is not refused
 pub record Accepts (s : List ℕ) (r : Setup) : Type 0 where
-  pub framed : Framed (tableauIn s) (positive (goalOf (formulas s))) (membersIn r) (leanIn r) (globalsIn r) (namesIn r) (othersIn r) (frameIn r)
+  pub framed : Framed (tableauIn s) (positive (goalOf (formulas s))) (membersIn r) (leanIn r) (globalsIn r) (namesIn r) (othersIn r) (valuesIn r) (frameIn r)
   pub members-within : r .count ≤ length (r .members)
   pub lean-within : r .width ≤ length (r .lean)
   pub globals-within : r .globals ≤ length (r .everywhere)
   pub names-within : r .names ≤ length (r .named)
   pub others-within : r .others ≤ length (r .unnamed)
+  pub values-within : r .values ≤ length (r .valued)
 
 pub record SetUp (s : List ℕ) (r : Setup) : Type 0 where
   pub is : r .refusal ≡ refusalOf s

@@ -1,14 +1,15 @@
 // From a sheet's bytes to what judging it needs, all that depends on the sheet alone, once for all namings: first what is read off the sheet,
 // then the words that are computed from it, in stores that are lent by its size. Assumes nothing.
 ghost use mathlib.Core.Path.{_≡_};
+ghost use mathlib.Core.List.{List};
 ghost use Prim.Native.Nat.{ℕ, _*_, _^_, _≤_, _<_};
 ghost use lib.ListN.{length, getD, take};
 ghost use Rattle.tableau.specs.Families.{Ready};
 ghost use Rattle.links.specs.Links.{linkRoom};
-ghost use Rattle.start.specs.Starts.{makesAll};
+ghost use Rattle.start.specs.Starts.{inBase};
 ghost use Rattle.wordset.specs.Words.{packed};
 ghost use Rattle.frame.specs.Framed.{Frames, FramedAs, Sound};
-ghost use Rattle.frame.specs.SetUp.{SetUp, nothingBy};
+ghost use Rattle.frame.specs.SetUp.{Accepts, SetUp, globalsIn, leanIn, membersIn, nothingBy, valuesIn};
 
 // The first n of some places, each below 256, at the beginning of a store.
 fn copy_places(places: &[usize], n: usize, to: &mut [u8])
@@ -31,19 +32,20 @@ fn count_namings(names: usize, others: usize) -> u64
     1 << (others * names)
 }
 
-// How many words hold the types, and how many link words they need; how many globals, names and other places there are; the goal's place in
-// the table; how many namings there are.
+// How many words hold the types, and how many link words they need; how many globals, names, other places and values there are; the goal's
+// place in the table; how many namings there are.
 pub struct Frame {
     pub words: usize,
     pub links: usize,
     pub globals: usize,
     pub names: usize,
     pub others: usize,
+    pub values: usize,
     pub goal: usize,
     pub namings: u64,
 }
 
-// The places of globals, names and others, each in its store.
+// The places of globals, names, others and values, each in its store.
 fn frame_of(
     ms: &[u64],
     ln: &[u8],
@@ -52,17 +54,18 @@ fn frame_of(
     globals: &mut [u8],
     names: &mut [u8],
     others: &mut [u8],
+    values: &mut [u8],
 ) -> Frame
-    requires { ⌜ Frames (now ms) (now ln) (now kinds) (now places) (now globals) (now names) (now others) ⌝ }
-    ensures { λ f. ⌜ FramedAs (now (ms .entry)) (now (ln .entry)) (now (kinds .entry)) (now (places .entry)) (now (globals .exit)) (now (names .exit)) (now (others .exit)) f ⌝ }
+    requires { ⌜ Frames (now ms) (now ln) (now kinds) (now places) (now globals) (now names) (now others) (now values) ⌝ }
+    ensures { λ f. ⌜ FramedAs (now (ms .entry)) (now (ln .entry)) (now (kinds .entry)) (now (places .entry)) (now (globals .exit)) (now (names .exit)) (now (others .exit)) (now (values .exit)) f ⌝ }
 {
     let w = prepare::words_for(ln.len());
     let links = links::link_room(ms, w);
     let n = places.len() - 1;
     copy_places(places, n, globals);
-    let split = prepare::split_lean(ms, ln, kinds, names, others);
-    let k = split.names;
-    let m = split.others;
+    let k = prepare::kind_places(ms, ln, kinds, 2, true, names);
+    let m = prepare::kind_places(ms, ln, kinds, 2, false, others);
+    let v = prepare::kind_places(ms, ln, kinds, 4, true, values);
     let namings = count_namings(k, m);
     Frame {
         words: w,
@@ -70,17 +73,18 @@ fn frame_of(
         globals: n,
         names: k,
         others: m,
+        values: v,
         goal: places[n],
         namings,
     }
 }
 
-// What judging a sheet goes by: its closure and lean, as the reader has them, the places of globals, names and others, and the frame's
-// numbers; or its refusal, with nothing else.
+// What judging a sheet goes by: its closure with the values that do not occur, and its lean, as the reader has them, the places of globals,
+// names, others and values, and the frame's numbers; or its refusal, with nothing else.
 pub struct Setup {
     pub refusal: u8,
     pub count: usize,
-    pub members: [u64; 128],
+    pub members: [u64; 136],
     pub width: usize,
     pub lean: [u8; 12],
     pub globals: usize,
@@ -89,6 +93,8 @@ pub struct Setup {
     pub named: [u8; 8],
     pub others: usize,
     pub unnamed: [u8; 8],
+    pub values: usize,
+    pub valued: [u8; 8],
     pub words: usize,
     pub links: usize,
     pub goal: usize,
@@ -101,7 +107,7 @@ fn nothing(k: u8) -> Setup
     Setup {
         refusal: k,
         count: 0,
-        members: [0u64; 128],
+        members: [0u64; 136],
         width: 0,
         lean: [0u8; 12],
         globals: 0,
@@ -110,6 +116,8 @@ fn nothing(k: u8) -> Setup
         named: [0u8; 8],
         others: 0,
         unnamed: [0u8; 8],
+        values: 0,
+        valued: [0u8; 8],
         words: 0,
         links: 0,
         goal: 0,
@@ -138,6 +146,7 @@ pub fn set_up(s: &[u8]) -> Setup
     let mut everywhere = [0u8; 8];
     let mut named = [0u8; 8];
     let mut unnamed = [0u8; 8];
+    let mut valued = [0u8; 8];
     let f = frame_of(
         &members[..count],
         &lean[..width],
@@ -146,6 +155,7 @@ pub fn set_up(s: &[u8]) -> Setup
         &mut everywhere,
         &mut named,
         &mut unnamed,
+        &mut valued,
     );
     Setup {
         refusal: 0,
@@ -159,6 +169,8 @@ pub fn set_up(s: &[u8]) -> Setup
         named,
         others: f.others,
         unnamed,
+        values: f.values,
+        valued,
         words: f.words,
         links: f.links,
         goal: f.goal,
@@ -166,22 +178,46 @@ pub fn set_up(s: &[u8]) -> Setup
     }
 }
 
-// The words that depend on the sheet alone: truth words and link words, and in `base` the types in which all globals are true.
-pub fn fill(
+// Truth words and link words, and in `base` the types that hold one value and in which all globals are true.
+fn fill_words(
     ms: &[u64],
     ln: &[u8],
     w: usize,
     globals: &[u8],
+    values: &[u8],
     tw: &mut [u64],
     lw: &mut [u64],
     base: &mut [u64],
 )
-    requires { ⌜ Sound (now ms) (now ln) (now globals) ⌝ }
+    requires { ⌜ Sound (now ms) (now ln) (now globals) (now values) ⌝ }
     requires { ⌜ (w ≤ 4) × (length (now ms) * w ≤ length (now tw)) × (linkRoom (now ms) w ≤ length (now lw)) × (w ≤ length (now base)) ⌝ }
     ensures { λ _. ⌜ Ready (now (ms .entry)) (now (ln .entry)) w (now (tw .exit)) (now (lw .exit)) ⌝ }
-    ensures { λ _. ⌜ now (base .exit) ≡ packed w (makesAll (now (ms .entry)) (now (ln .entry)) (now (globals .entry))) (now (base .entry)) ⌝ }
+    ensures { λ _. ⌜ now (base .exit) ≡ packed w (inBase (now (ms .entry)) (now (ln .entry)) (now (globals .entry)) (now (values .entry))) (now (base .entry)) ⌝ }
 {
     truth::truth_words(ms, ln, tw, w);
     links::link_words(ms, ln, tw, lw, w);
-    start::base_words(ms, ln, tw, w, globals, base);
+    start::base_words(ms, ln, tw, w, globals, values, base);
+}
+
+// The words that depend on the sheet alone, in stores that are lent by its size.
+pub fn fill(u: Setup, tw: &mut [u64], lw: &mut [u64], base: &mut [u64])
+    requires { ⌜ ((s : List ℕ) × Accepts s u) ⌝ }
+    requires { ⌜ (288 ≤ length (now tw)) × (u .links ≤ length (now lw)) × (4 ≤ length (now base)) ⌝ }
+    ensures { λ _. ⌜ Ready (membersIn u) (leanIn u) (u .words) (now (tw .exit)) (now (lw .exit)) ⌝ }
+    ensures { λ _. ⌜ now (base .exit) ≡ packed (u .words) (inBase (membersIn u) (leanIn u) (globalsIn u) (valuesIn u)) (now (base .entry)) ⌝ }
+{
+    let members = u.members;
+    let lean = u.lean;
+    let everywhere = u.everywhere;
+    let valued = u.valued;
+    fill_words(
+        &members[..u.count],
+        &lean[..u.width],
+        u.words,
+        &everywhere[..u.globals],
+        &valued[..u.values],
+        tw,
+        lw,
+        base,
+    );
 }

@@ -8,7 +8,7 @@ use lib.Dec.{ltb}
 use lib.ListN.{length}
 use borrow.Author.Tests.{eq-eqb, ne-eqb, lt-ltb, le-ltb}
 use Rattle.layout.specs.Text.{same}
-use Rattle.head.specs.Head.{nameCount, kindRight, markWord, nameWord, fieldWord, kindOf}
+use Rattle.head.specs.Head.{nameCount, kindRight, markWord, nameWord, fieldWord, valueWord, kindOf}
 
 module _ (w : List ℕ) where
   pub kind-mark : same w markWord ≡ true → kindOf w ≡ 1
@@ -23,9 +23,13 @@ module _ (w : List ℕ) where
   unfolding kindOf
   kind-field e f g = rw (e, f, g)
 
-  pub kind-none : same w markWord ≡ false → same w nameWord ≡ false → same w fieldWord ≡ false → kindOf w ≡ 0
+  pub kind-value : same w markWord ≡ false → same w nameWord ≡ false → same w fieldWord ≡ false → same w valueWord ≡ true → kindOf w ≡ 4
   unfolding kindOf
-  kind-none e f g = rw (e, f, g)
+  kind-value e f g h = rw (e, f, g, h)
+
+  pub kind-none : same w markWord ≡ false → same w nameWord ≡ false → same w fieldWord ≡ false → same w valueWord ≡ false → kindOf w ≡ 0
+  unfolding kindOf
+  kind-none e f g h = rw (e, f, g, h)
 
 module _ (seen : List ℕ) (k : ℕ) where
   pub kind-zero : k ≡ 0 → kindRight seen k ≡ false

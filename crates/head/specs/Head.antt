@@ -43,8 +43,8 @@ pub record NamesRead (line : List ℕ) (r : Names) : Type 0 where
   pub room : length (r .words) ≡ 8
   pub are : take (r .count) (r .words) ≡ map word (namesOf line)
 
--- ---- 5, kinds: line 2 has as many words, each `mark`, `name` or `field`, at most two of them `name`
--- a word's kind: 1 mark, 2 name, 3 field, 0 none
+-- ---- 5, kinds: line 2 has as many words, each `mark`, `name`, `field` or `value`, at most two of them `name`
+-- a word's kind: 1 mark, 2 name, 3 field, 4 value, 0 none
 abbrev pub markWord : List ℕ
 markWord = 109 ∷ 97 ∷ 114 ∷ 107 ∷ []
 
@@ -54,8 +54,11 @@ nameWord = 110 ∷ 97 ∷ 109 ∷ 101 ∷ []
 abbrev pub fieldWord : List ℕ
 fieldWord = 102 ∷ 105 ∷ 101 ∷ 108 ∷ 100 ∷ []
 
+abbrev pub valueWord : List ℕ
+valueWord = 118 ∷ 97 ∷ 108 ∷ 117 ∷ 101 ∷ []
+
 unfoldable pub kindOf : List ℕ → ℕ
-kindOf w = cond (same w markWord) 1 (cond (same w nameWord) 2 (cond (same w fieldWord) 3 0))
+kindOf w = cond (same w markWord) 1 (cond (same w nameWord) 2 (cond (same w fieldWord) 3 (cond (same w valueWord) 4 0)))
 
 -- how many of the kinds are names
 unfoldable pub nameCount : List ℕ → ℕ
@@ -97,8 +100,8 @@ layoutRefusal s =
     (cond (eqb (length (spellings s)) 0) 4
     (cond (not (eqb (length (kinds s)) (length (spellings s)))) 5 0))))
 
--- ---- declarations: 16 numbers. Number i is the word of symbol i where that is a mark or a name, number 8 + i where it is a field, and 0 where there is none;
--- so a symbol's entry (spelling: entryIn) is 0 undeclared, 1 + i the mark or name i, 9 + i the field i
+-- ---- declarations: 16 numbers. Number i is the word of symbol i where that is a mark, a name or a value, number 8 + i where it is a field, and 0 where there is none;
+-- so a symbol's entry (spelling: entryIn) is 0 undeclared, 1 + i the mark, name or value i, 9 + i the field i
 abbrev pub placeOf : ℕ → ℕ → ℕ
 placeOf i k = cond (eqb k 3) (8 + i) i
 

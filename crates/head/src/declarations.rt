@@ -1,4 +1,4 @@
-// The declarations: which word is which symbol, marks and names apart from fields. Assumes nothing.
+// The declarations: which word is which symbol, fields apart from the others. Assumes nothing.
 ghost use mathlib.Core.Path.{_≡_};
 ghost use Prim.Native.Nat.{_≤_};
 ghost use lib.ListN.{length};

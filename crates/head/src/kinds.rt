@@ -6,7 +6,7 @@ use layout::end_of;
 use layout::next_line;
 use layout::same_text;
 
-// A word's kind: 1 mark, 2 name, 3 field, 0 none.
+// A word's kind: 1 mark, 2 name, 3 field, 4 value, 0 none.
 pub fn kind_of(w: &[u8]) -> u8
     ensures { λ r. ⌜ r ≡ kindOf (now (w .entry)) ⌝ }
 {
@@ -18,6 +18,9 @@ pub fn kind_of(w: &[u8]) -> u8
     }
     if same_text(w, b"field") {
         return 3;
+    }
+    if same_text(w, b"value") {
+        return 4;
     }
     0
 }

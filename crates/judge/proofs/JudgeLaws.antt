@@ -17,7 +17,7 @@ use Rattle.wordset.specs.Words.{packed}
 use Rattle.truth.specs.Truths.{trueAt}
 use Rattle.truth.specs.Blocks.{listOf}
 use Rattle.tableau.specs.Families.{Survivors}
-use Rattle.start.specs.Starts.{startList, makesAll}
+use Rattle.start.specs.Starts.{startList, inBase}
 use Rattle.truth.specs.Tables.{form}
 use Rattle.goal.specs.Goals.{firstOf}
 use Rattle.goal.specs.declared.Found.{Found}
@@ -144,7 +144,7 @@ judged-as : {f g : ℕ → List ℕ} {n : ℕ} {a : Verdict} → ((r : ℕ) → 
 judged-as i (opens {r} {t} l h e) = opens l (λ q k. sym (i q) ∙ h q k) (ap firstOf (sym (i r)) ∙ e)
 judged-as i (closes h) = closes (λ q k. sym (i q) ∙ h q k)
 
-module _ {S : Tableau} {ms ln globals names others : List ℕ} (m : Matches S ms ln globals names others) (w : ℕ) (d base : List ℕ) (h : w ≤ length d) (eb : base ≡ packed w (makesAll ms ln globals) d) (top : 2 ^ length ln ≤ w * 64)
+module _ {S : Tableau} {ms ln globals names others values : List ℕ} (m : Matches S ms ln globals names others values) (w : ℕ) (d base : List ℕ) (h : w ≤ length d) (eb : base ≡ packed w (inBase ms ln globals values) d) (top : 2 ^ length ln ≤ w * 64)
     (goal : ℕ) where
   pub goals-are : (r : ℕ) → goalsAt ms ln w base names others goal r ≡ goalTypes S (form ms goal) r
   unfolding goalsAt goalTypes

@@ -1,4 +1,4 @@
--- What a step adds to a table of members, and that a table has no room for what it should have. Assumes nothing.
+-- What stands in a table of members, what a step adds to it, and that it has no room for what it should have. Assumes nothing.
 use mathlib.Core.Path.{_≡_}
 use mathlib.Core.List.{List, _++_}
 use Prim.Native.Nat.{ℕ, _≤_, _<_}
@@ -23,6 +23,15 @@ pub record Grows (ws ws′ : List ℕ) (l : List Form) : Type 0 where
   pub front : ws′ ≡ ws ++ rest
   pub has : (p : Form) → p ∈ l → p ∈ forms ws′
   pub only : (p : Form) → p ∈ forms ws′ → p ∈ forms ws ++ l
+
+-- the first m words of the table are the formulas of l, each once
+pub record Tabled (l : List Form) (tab : List ℕ) (m : ℕ) : Type 0 where
+  pub room : m ≤ length tab
+  pub members : Members (take m tab)
+  pub unique : Unique l
+  pub has : (p : Form) → p ∈ l → p ∈ forms (take m tab)
+  pub only : (p : Form) → p ∈ forms (take m tab) → p ∈ l
+  pub count : m ≡ length l
 
 -- more than k different formulas are in l
 pub record TooMany (k : ℕ) (l : List Form) : Type 0 where

@@ -17,7 +17,7 @@ use Rattle.ctl.proofs.ListLaws.{elem-in, elem-out}
 use Rattle.ctl.proofs.VerdictLaws.{open-some, surviving-iff}
 use Rattle.wordset.specs.Words.{member}
 use Rattle.wordset.proofs.WordLaws.{member-packed}
-use Rattle.sheet.specs.Reading.{formulas, globalsOf, goalOf, isName, spellOf}
+use Rattle.sheet.specs.Reading.{formulas, globalsOf, goalOf, isName, spellOf, valuesIn}
 use Rattle.reader.specs.Reader.{refusalOf}
 use Rattle.prepare.specs.Prepared.{tableauIn}
 use Rattle.frame.specs.SetUp.{SetUp}
@@ -42,7 +42,7 @@ pub set-up-wide : {s : List ℕ} {u : Setup} → SetUp s u → refusalOf s ≡ 0
 set-up-wide {s} x z = let e = x .is ∙ z in record { few = subst (λ w. w ≤ 4) (words-are x e) (few-words x e); enough = types-within x e }
 
 whole : (s : List ℕ) → WholeClaim s (Ctl.verdict (tableauIn s) (positive (goalOf (formulas s))))
-whole s = demand-3 (spellOf s) (isName s) (globalsOf (formulas s)) (goalOf (formulas s))
+whole s = demand-3 (spellOf s) (isName s) (valuesIn s) (globalsOf (formulas s)) (goalOf (formulas s))
 
 -- ---- Table
 

@@ -12,7 +12,7 @@ use Rattle.ctl.specs.Lists.{_∈_}
 use Rattle.ctl.specs.Meaning.{HoldsRaw}
 use Rattle.ctl.specs.Positive.{positive}
 use Rattle.ctl.specs.Raw.{Raw}
-use Rattle.ctl.specs.Snapshot.{NamesSingle, ofLines}
+use Rattle.ctl.specs.Snapshot.{Legal, ofLines}
 use Rattle.evaluator.proofs.RowMeaning.{globals-bit, goal-bit, row-length}
 use Rattle.evaluator.specs.Rows.{rowOf}
 use Rattle.head.proofs.HeadLaws.{line-first}
@@ -21,9 +21,9 @@ use Rattle.layout.specs.Layout.{lineOf}
 use Rattle.head.specs.Head.{kinds}
 use Rattle.layout.specs.Text.{endOf}
 use Rattle.sheet.proofs.RefusalLaws.{right-kinds, some-symbols}
-use Rattle.sheet.specs.Reading.{formulas, globalsOf, goalOf, isName}
+use Rattle.sheet.specs.Reading.{formulas, globalsOf, goalOf, isName, valuesIn}
 use Rattle.snapshot.proofs.AnsweredLaws.{answered, nodes-held}
-use Rattle.snapshot.specs.Answered.{Answered, no-text, of-nodes, on-two, too-high}
+use Rattle.snapshot.specs.Answered.{Answered, no-text, not-one, of-nodes, on-two, too-high}
 use Rattle.snapshot_text.specs.Lines.{lineStore}
 use Rattle.snapshot.specs.Read.{Few, readSnapshot}
 use Rattle.snapshot_text.specs.Store.{ofStore}
@@ -58,11 +58,12 @@ module _ (s : List ℕ) (z : refusalOf s ≡ 0) where
   pub reads-as : (t : List ℕ) → Answered (lineOf s 0) (kinds s) t (entriesIn s t) (snapshotRead s t)
   reads-as t = answered (lineOf s 0) (kinds s) t some-kinds few-kinds
 
--- a text is refused by 13, 14 or 15
+-- a text is refused by 13, 14, 15 or 17
 refused-some : {line ks t out : List ℕ} {a : Answer} {k : ℕ} → Answered line ks t out a → a ≡ Reading.Refused k → k ≡ 0 → ⊥
 refused-some (no-text f) e i = let j : _≡_ {A = ℕ} 13 0 = cc in omega arith
 refused-some (too-high l x y) e i = let j : _≡_ {A = ℕ} 14 0 = cc in omega arith
 refused-some (on-two l x y w) e i = let j : _≡_ {A = ℕ} 15 0 = cc in omega arith
+refused-some (not-one l x y w v) e i = let j : _≡_ {A = ℕ} 17 0 = cc in omega arith
 refused-some (of-nodes n h) e i = let j : _≡_ {A = ℕ} 0 1 = cc in omega arith
 
 -- ---- a refusal leaves the row alone
@@ -116,8 +117,8 @@ module _ {s : List ℕ} {r : Reader.Reading} (x : ReadIs 64 8 s r) {k : ℕ} (e 
         pub row-short : (row : List ℕ) → length row < n → SnapshotIs s t row (Refused 16) row
         row-short row h = refused-by row (sym (number-is t (length row) (sym j ∙ read-is) ∙ ap (λ b. cond b 16 0) (lt-ltb (length row) n h))) (λ q. omega arith)
 
-        pub fill-asked : (row : List ℕ) → length out′ ≡ 128 → length (r .members) ≡ 128 → length (r .places) ≡ 5 → n ≤ length row
-            → ((n ≤ 16) × ((n * 8 ≤ length out′) × ((length (tableOf r) ≤ 128) × Table (tableOf r))))
+        pub fill-asked : (row : List ℕ) → length out′ ≡ 128 → length (r .members) ≡ 136 → length (r .places) ≡ 5 → n ≤ length row
+            → ((n ≤ 16) × ((n * 8 ≤ length out′) × ((length (tableOf r) ≤ 136) × Table (tableOf r))))
             × ((n ≤ length row) × ((getD (r .places) (r .formulas - 1) 0 < length (tableOf r)) × ((g : ℕ) → g < length (take (r .formulas - 1) (r .places)) → getD (take (r .formulas - 1) (r .places)) g 0 < length (tableOf r))))
         fill-asked row a b c h =
             let f = nodes-few in
@@ -184,14 +185,14 @@ module _ (s t : List ℕ) where
   snapshot-means {row} {o} {row′} x = record { reads = λ z. reads-as s z t; judges = λ n e. go (snapshotRefusal s t (length row)) refl n (sym e ∙ x .answer) (x .row-holds) }
     where
       Judges : ℕ → Type 0
-      Judges n = (lines : List (List ℕ)) × Text (lineOf s 0) (length (kinds s)) t lines × (length lines ≡ n) × NamesSingle (isName s) (ofLines lines) × RowMeans s lines row′
+      Judges n = (lines : List (List ℕ)) × Text (lineOf s 0) (length (kinds s)) t lines × (length lines ≡ n) × Legal (isName s) (valuesIn s) (ofLines lines) × RowMeans s lines row′
 
       -- the text was read as n nodes
       of-read : (a : Answer) → snapshotRead s t ≡ a → refusalOf s ≡ 0 → rowRefusal a (length row) ≡ 0 → (n : ℕ) → n ≡ nodesOf a → row′ ≡ rowIn s t (nodesOf a) ++ drop (nodesOf a) row → Judges n
       of-read (Reading.Refused q) i z none n e r = absurd (refused-some (reads-as s z t) i none)
       of-read (Reading.Nodes m) i z none n e r =
           let h = nodes-held (subst (Answered (lineOf s 0) (kinds s) t (entriesIn s t)) i (reads-as s z t)) in
-          (h .lines, h .text, h .count ∙ sym e, h .names, subst (RowMeans s (h .lines)) (sym r) (bits (h .lines) m row (h .count) (h .same)))
+          (h .lines, h .text, h .count ∙ sym e, h .legal, subst (RowMeans s (h .lines)) (sym r) (bits (h .lines) m row (h .count) (h .same)))
 
       go : (k : ℕ) → snapshotRefusal s t (length row) ≡ k → (n : ℕ) → Done n ≡ snapshotAnswer s t k → row′ ≡ snapshotRow s t k row → Judges n
       go zero z n a r =

@@ -9,7 +9,7 @@ use lib.ListN.{length, getD}
 use Rattle.ctl.specs.Lists.{_∈_}
 use Rattle.ctl.specs.Positive.{positive}
 use Rattle.ctl.specs.Raw.{Raw}
-use Rattle.ctl.specs.Snapshot.{Snapshot, NamesSingle, ofLines}
+use Rattle.ctl.specs.Snapshot.{Snapshot, Legal, ofLines}
 use Rattle.ctl.specs.Meaning.{HoldsRaw}
 use Rattle.ctl.specs.Tableau.{startTypes}
 use Rattle.ctl.specs.Verdict as Ctl
@@ -21,7 +21,7 @@ use Rattle.layout.specs.Layout.{lineOf}
 use Rattle.head.specs.Head.{kinds}
 use Rattle.snapshot.specs.Answered.{Answered}
 use Rattle.snapshot_text.specs.Text.{Text}
-use Rattle.sheet.specs.Reading.{formulas, globalsOf, goalOf, isName, spellOf}
+use Rattle.sheet.specs.Reading.{formulas, globalsOf, goalOf, isName, spellOf, valuesIn}
 use Rattle.reader.specs.Reader.{refusalOf}
 use Rattle.prepare.specs.Prepared.{tableauIn}
 use Rattle.outcomes.specs.declared.SnapshotAnswer.{SnapshotAnswer}
@@ -53,20 +53,20 @@ pub record RowMeans (s : List ℕ) (lines : List (List ℕ)) (row′ : List ℕ)
   pub goal-bit : (i : ℕ) → i < length lines → (getD row′ i 0 % 2 ≡ 1) ↔ HoldsRaw (ofLines lines) (goalOf (formulas s)) i
   pub globals-bit : (i : ℕ) → i < length lines → (2 ≤ getD row′ i 0) ↔ ((g : Raw) → g ∈ globalsOf (formulas s) → HoldsRaw (ofLines lines) g i)
 
--- 13 to 15 in document 01's words (`Answered`); and after an answer that is no refusal, what the row says
+-- 13 to 15 and 17 in the documents' words (`Answered`); and after an answer that is no refusal, that the lines keep the rules on names and values, and what the row says
 pub record SnapshotMeans (s t : List ℕ) (o : SnapshotAnswer) (row′ : List ℕ) : Type 0 where
   pub reads : refusalOf s ≡ 0 → Answered (lineOf s 0) (kinds s) t (entriesIn s t) (snapshotRead s t)
-  pub judges : (n : ℕ) → o ≡ Judged.Done n → (lines : List (List ℕ)) × Text (lineOf s 0) (length (kinds s)) t lines × (length lines ≡ n) × NamesSingle (isName s) (ofLines lines) × RowMeans s lines row′
+  pub judges : (n : ℕ) → o ≡ Judged.Done n → (lines : List (List ℕ)) × Text (lineOf s 0) (length (kinds s)) t lines × (length lines ≡ n) × Legal (isName s) (valuesIn s) (ofLines lines) × RowMeans s lines row′
 
 -- ---- Demand 3
 
 -- the single claim about the whole elimination, with a verdict of the logic
 abbrev pub WholeClaim : List ℕ → Ctl.Verdict → Type 0
-WholeClaim s v = Whole.Demand3 (spellOf s) (isName s) (globalsOf (formulas s)) (goalOf (formulas s)) v
+WholeClaim s v = Whole.Demand3 (spellOf s) (isName s) (valuesIn s) (globalsOf (formulas s)) (goalOf (formulas s)) v
 
--- a snapshot that the demand speaks of: each name is on at most one node, and every global holds at every node
+-- a snapshot that the demand speaks of: each name is on at most one node, each node holds exactly one of the values, if any is declared, and every global holds at every node
 abbrev pub Speaks : List ℕ → Snapshot → Type 0
-Speaks s g = NamesSingle (isName s) g × GlobalsHold (globalsOf (formulas s)) g
+Speaks s g = Legal (isName s) (valuesIn s) g × GlobalsHold (globalsOf (formulas s)) g
 
 -- What Table answers and leaves: few rounds; and in every snapshot of any size that the demand speaks of and naming r fits, the type of every node is there at the start, is
 -- there after every round, and stands at the end: its bit is set in both stores

@@ -32,7 +32,7 @@ use Rattle.outcomes.specs.declared.SnapshotAnswer.the-variants as Judged
 use Rattle.outcomes.specs.declared.VerdictAnswer.{VerdictAnswer}
 use Rattle.outcomes.specs.declared.VerdictAnswer.the-variants as Judging
 
--- ---- refusals: the lowest number that applies
+-- ---- refusals: the first that applies, in the order of their numbers but for 17, which is asked before 16
 
 -- a number, or the next where it is 0
 abbrev pub orElse : ℕ → ℕ → ℕ
@@ -130,7 +130,7 @@ verdictOf s = verdictAnswer s (refusalOf s)
 
 -- ---- Snapshot
 
--- a snapshot's text, read under line 1 and the kinds of a sheet: its refusal 13 to 15 or its node count, and the store of its entries
+-- a snapshot's text, read under line 1 and the kinds of a sheet: its refusal 13, 14, 15 or 17 or its node count, and the store of its entries
 abbrev pub snapshotRead : List ℕ → List ℕ → Answer
 snapshotRead s t = readSnapshot (lineOf s 0) (kinds s) t (replicate 128 0)
 
@@ -141,7 +141,7 @@ abbrev pub nodesOf : Answer → ℕ
 nodesOf (Reading.Refused k) = 0
 nodesOf (Reading.Nodes n) = n
 
--- 13 to 15; then 16, row: shorter than the node count
+-- 13, 14, 15, 17; then 16, row: shorter than the node count
 abbrev pub rowRefusal : Answer → ℕ → ℕ
 rowRefusal (Reading.Refused k) long = k
 rowRefusal (Reading.Nodes n) long = cond (ltb long n) 16 0

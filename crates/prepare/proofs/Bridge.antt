@@ -1,5 +1,6 @@
 -- What the tableau asks of a member table, a lean, the globals and the goal, of those that the reader gives. Assumes nothing.
 use mathlib.Core.Path.{_≡_, refl, sym, ap, _∙_, subst}
+use mathlib.Core.Logic.{_⊎_, inl, inr}
 use mathlib.Core.Bool.{true, _||_}
 use mathlib.Core.List.{List, [], _∷_, _++_, map, map-append, List·Memᴰ·head, List·Memᴰ·tail}
 use Prim.Native.Nat.{ℕ, zero, suc, _-_, _≤_, _<_}
@@ -9,20 +10,21 @@ use lib.ListN.{length, getD, length-append, length-map, List·getD-append, List�
 use lib.Seq.{ext-getD, getD-at, length-take-le}
 use lib.Dec.{T, eqb}
 use Rattle.ctl.specs.Lists.{_∈_}
-use Rattle.ctl.specs.Formula.{Form, tru}
+use Rattle.ctl.specs.Formula.{Form, tru, lit}
 use Rattle.ctl.specs.Equality.{tag, num}
 use Rattle.ctl.specs.Modes.{single}
 use Rattle.ctl.specs.Raw.{Raw}
 use Rattle.ctl.specs.Positive.{positive}
 use Rattle.ctl.specs.Sorting.{Unique, more}
 use Rattle.ctl.specs.Closure.{closure}
-use Rattle.ctl.specs.Lean.{isLetter, isNext, lean}
-use Rattle.ctl.specs.Tableau.{Tableau, tableauOf, namePlaces, otherPlaces}
+use Rattle.ctl.specs.Lean.{isLetter, isNext, withValues, lean}
+use Rattle.ctl.specs.Tableau.{Tableau, tableauOf, namePlaces, otherPlaces, valuePlaces}
 use Rattle.ctl.specs.Demand3.{sheetTableau}
 use Rattle.ctl.proofs.BoolLaws.{and-make, or-1, T-true}
-use Rattle.ctl.proofs.LeanOrder.{lean-members}
+use Rattle.ctl.proofs.LeanOrder.{lean-members, with-in, with-out}
+use Rattle.ctl.proofs.ValueLaws.{places-none}
 use Rattle.sheet.specs.Refusal.{readRefusal}
-use Rattle.sheet.specs.Reading.{formulas, globalsOf, goalOf, spellOf}
+use Rattle.sheet.specs.Reading.{formulas, globalsOf, goalOf, spellOf, valuesIn}
 use Rattle.sheet.proofs.SizeLaws.{formulas-many, texts-some}
 use Rattle.members.specs.Members.{Canon, Members, c-and, c-ar, c-au, c-ax, c-er, c-eu, c-ex, c-fls, c-lit, c-nlit, c-or, c-tru, forms, leftW, tagW, wordOf}
 use Rattle.members.proofs.MemberLaws.{canon-parts, forms-length, member, word-left, word-tag}
@@ -33,6 +35,7 @@ use Rattle.reader.specs.declared.Reading.{Reading}
 use Rattle.reader.specs.Reader as R
 use Rattle.reader.specs.Reader.{Says}
 use Rattle.prepare.specs.Prepared.{leanOf, tableOf, tableauIn}
+use Rattle.prepare.proofs.NameCount.{proper}
 
 -- ---- lists by their places
 
@@ -175,7 +178,7 @@ module _ (s : List ℕ) (r : Reading) (x : Says s r) where
           let e = List·getD-eq-default (forms ms) tru {n = getD ln k 0} (let n = forms-length ms in omega arith) in
           let w = lean-length in
           let v = x .lean-many in
-          lean-not-tru (spellOf s) (R.members s) (subst (λ p. p ∈ R.places s) (sym (lean-form k h) ∙ e) (form-in (R.places s) k (omega arith)))
+          lean-not-tru (spellOf s) (R.tabled s) (subst (λ p. p ∈ R.places s) (sym (lean-form k h) ∙ e) (form-in (R.places s) k (omega arith)))
 
   pub leans : r .width ≤ 60 → Leans ms ln
   leans h = record { short = (let n = lean-length in omega arith); inside = lean-inside }
@@ -186,8 +189,8 @@ module _ (s : List ℕ) (r : Reading) (x : Says s r) where
   ex-places i h g a =
       let w = member-word (x .tabled .members) i h in
       let n = ex-next (form ms i) (w .0 ∙ g) (ap single (w .1) ∙ a) in
-      let c : form ms i ∈ R.members s = x .tabled .only (form ms i) (form-in (forms ms) i (let e = forms-length ms in omega arith)) in
-      let p = form-place (R.places s) (lean-members (spellOf s) (R.members s) (form ms i) .1 (c, or-1 (isLetter (form ms i)) (isNext (form ms i)) n)) in
+      let c : form ms i ∈ R.tabled s = x .tabled .only (form ms i) (form-in (forms ms) i (let e = forms-length ms in omega arith)) in
+      let p = form-place (R.places s) (lean-members (spellOf s) (R.tabled s) (form ms i) .1 (c, or-1 (isLetter (form ms i)) (isNext (form ms i)) n)) in
       let k : p .0 < length ln = (let b = p .1 in let e = lean-length in let v = x .lean-many in omega arith) in
       (p .0, k, table .distinct (getD ln (p .0) 0) i (lean-inside (p .0) k) h (lean-form (p .0) k ∙ p .2))
 
@@ -200,22 +203,29 @@ module _ (s : List ℕ) (r : Reading) (x : Says s r) where
 
     pub tableau-lean : S .ln ≡ R.places s
     unfolding sheetTableau tableauOf
-    tableau-lean = ap (λ l. lean (spellOf s) (closure l)) (forms-split s z)
+    tableau-lean = ap (λ l. lean (spellOf s) (withValues (valuesIn s) (closure l))) (forms-split s z)
 
     tableau-globals : S .globals ≡ map positive (globalsOf (formulas s))
     unfolding sheetTableau tableauOf
     tableau-globals = refl
 
-    pub matches : (globals : List ℕ) → map (form ms) globals ≡ map positive (globalsOf (formulas s)) → Matches S ms ln globals (namePlaces S) (otherPlaces S)
+    pub matches : (globals : List ℕ) → map (form ms) globals ≡ map positive (globalsOf (formulas s)) → Matches S ms ln globals (namePlaces S) (otherPlaces S) (valuePlaces S)
     unfolding leanForms
     matches globals e = record {
-      closure-in = λ p m. x .tabled .has p (subst (λ l. p ∈ l) tableau-closure m);
-      closure-has = λ p m. subst (λ l. p ∈ l) (sym tableau-closure) (x .tabled .only p m);
+      closure-in = λ p m. x .tabled .has p (with-in (R.members s) (valuesIn s) (subst (λ l. p ∈ l) tableau-closure m));
+      closure-has = λ p m. member-or-symbol p (with-out (R.members s) (valuesIn s) (x .tabled .only p m));
       lean = tableau-lean ∙ sym lean-forms;
       globals-are = tableau-globals ∙ sym e;
       names-are = refl;
       others-are = refl;
+      values-are = refl;
+      values-none = places-none S (proper s);
     }
+      where
+        -- what stands in the table is a closure member or a value
+        member-or-symbol : (p : Form) → (p ∈ R.members s) ⊎ ((k : ℕ) × (k ∈ valuesIn s) × (p ≡ lit k)) → (p ∈ S .cl) ⊎ T (isLetter p)
+        member-or-symbol p (inl m) = inl (subst (λ l. p ∈ l) (sym tableau-closure) m)
+        member-or-symbol p (inr w) = inr (subst (λ q. T (isLetter q)) (sym (w .2)) tt)
 
     -- ---- the places of the formulas
 

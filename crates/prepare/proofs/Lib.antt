@@ -1,6 +1,6 @@
-pub mod Bridge
-pub mod SplitLaws
-pub mod SplitBridge
-pub mod WidthLaws
 pub mod NameCount
+pub mod Bridge
+pub mod PlaceLaws
+pub mod PlaceBridge
+pub mod WidthLaws
 pub mod FormerLaws

@@ -11,18 +11,15 @@ use borrow.Author.Tests.{ltb-true}
 use Rattle.ctl.specs.Lists.{_∈_, below, countFrom, keep, put}
 use Rattle.ctl.specs.Formula.{Form, tru, fls, lit, nlit, and, or, ex, ax, eu, au, er, ar}
 use Rattle.ctl.specs.Equality.{tag, num}
-use Rattle.ctl.specs.Tableau.{Tableau, isName, namePlaces, otherPlaces, tableauOf}
-use Rattle.ctl.specs.Sorting.{Unique}
-use Rattle.ctl.specs.Closure.{closure}
+use Rattle.ctl.specs.Tableau.{Tableau, isName, isValue, namePlaces, otherPlaces, valuePlaces, tableauOf}
 use Rattle.ctl.specs.Positive.{positive}
 use Rattle.ctl.specs.Demand3.{sheetTableau}
 use Rattle.ctl.proofs.BoolLaws.{and-0, and-1, and-both}
-use Rattle.ctl.proofs.ClosureLaws.{closure-unique}
-use Rattle.ctl.proofs.LeanOrder.{lean-unique}
-use Rattle.ctl.proofs.ListLaws.{below-in, below-out, keep-in, keep-length, keep-out, length-count, map-in}
+use Rattle.ctl.proofs.ListLaws.{below-in, keep-in, keep-length, keep-out, kept-below, length-count, map-in}
 use Rattle.ctl.proofs.SortLaws.{keep-unique, unique-length}
+use Rattle.ctl.proofs.TableauLaws.{Proper, tableau-proper}
 use Rattle.head.specs.Head.{kindOf, kindRight, kinds, kindsFrom, kindsOf, nameCount}
-use Rattle.sheet.specs.Reading.{formulas, globalsOf, goalOf, spellOf}
+use Rattle.sheet.specs.Reading.{formulas, globalsOf, goalOf, isName as isNameOf, spellOf, valuesIn}
 use Rattle.prepare.specs.Prepared.{tableauIn}
 
 -- ---- at most two kinds are names
@@ -103,9 +100,9 @@ is-lit (au A p q) e = absurd (omega arith)
 is-lit (er A p q) e = absurd (omega arith)
 is-lit (ar A p q) e = absurd (omega arith)
 
--- a symbol of kind 2 is among the kinds
-kind-within : (ks : List ℕ) (k : ℕ) → T (eqb (getD ks k 0) 2) → k < length ks
-kind-within ks k t = elim (decLe (length ks) k) [ yes h ↦ absurd (subst (λ i. T (eqb i 2)) (List·getD-eq-default ks 0 h) t) | no h ↦ omega arith ]
+-- a symbol of a kind is among the kinds
+pub kind-within : (ks : List ℕ) (q : ℕ) → 0 < q → (k : ℕ) → T (eqb (getD ks k 0) q) → k < length ks
+kind-within ks q l k t = elim (decLe (length ks) k) [ yes h ↦ absurd (let e = eqb→eq 0 q (subst (λ i. T (eqb i q)) (List·getD-eq-default ks 0 h) t) in omega arith) | no h ↦ omega arith ]
 
 module _ (s : List ℕ) where
   abbrev S : Tableau
@@ -119,19 +116,17 @@ module _ (s : List ℕ) where
   name-in p t =
       let a = and-0 (eqb (tag p) 2) (eqb (getD (kinds s) (num p) 0) 2) t in
       let b = and-1 (eqb (tag p) 2) (eqb (getD (kinds s) (num p) 0) 2) t in
-      subst (λ q. q ∈ map lit symbols) (sym (is-lit p (eqb→eq (tag p) 2 a))) (map-in lit (keep-in (λ k. eqb (getD (kinds s) k 0) 2) (below-in (kind-within (kinds s) (num p) b)) b))
+      subst (λ q. q ∈ map lit symbols) (sym (is-lit p (eqb→eq (tag p) 2 a))) (map-in lit (keep-in (λ k. eqb (getD (kinds s) k 0) 2) (below-in (kind-within (kinds s) 2 (omega arith) (num p) b)) b))
 
-  lean-once : Unique (S .ln)
-  unfolding sheetTableau tableauOf
-  lean-once =
-      let l = map positive (globalsOf (formulas s)) ++ (positive (goalOf (formulas s)) ∷ []) in
-      lean-unique (spellOf s) (closure l) (closure-unique l)
+  pub proper : Proper S
+  unfolding sheetTableau
+  proper = tableau-proper (spellOf s) (isNameOf s) (valuesIn s) (map positive (globalsOf (formulas s))) (positive (goalOf (formulas s)) ∷ [])
 
   pub names-two : length (namePlaces S) ≤ 2
   unfolding namePlaces
   names-two =
       let a = keep-places (isName S) tru (S .ln) in
-      let b = unique-length (keep (isName S) (S .ln)) (map lit symbols) (keep-unique (isName S) (S .ln) lean-once) (λ p m. name-in p (keep-out (isName S) (S .ln) m .1)) in
+      let b = unique-length (keep (isName S) (S .ln)) (map lit symbols) (keep-unique (isName S) (S .ln) (proper .once)) (λ p m. name-in p (keep-out (isName S) (S .ln) m .1)) in
       let c = length-map symbols lit in
       let d = keep-places (λ k. eqb k 2) 0 (kinds s) in
       let e = count-keep (kinds s) in
@@ -143,10 +138,18 @@ module _ (s : List ℕ) where
   unfolding otherPlaces
   others-few = let a = keep-length (λ i. not (isName S (getD (S .ln) i tru))) (below (length (S .ln))) in let b = length-count 0 (length (S .ln)) in omega arith
 
+  pub values-few : length (valuePlaces S) ≤ length (S .ln)
+  unfolding valuePlaces
+  values-few = let a = keep-length (λ i. isValue S (getD (S .ln) i tru)) (below (length (S .ln))) in let b = length-count 0 (length (S .ln)) in omega arith
+
   pub name-below : (k : ℕ) → k ∈ namePlaces S → k < length (S .ln)
   unfolding namePlaces
-  name-below k m = below-out (length (S .ln)) (keep-out (λ i. isName S (getD (S .ln) i tru)) (below (length (S .ln))) m .0)
+  name-below k m = kept-below (λ i. isName S (getD (S .ln) i tru)) (length (S .ln)) k .0 m .0
 
   pub other-below : (k : ℕ) → k ∈ otherPlaces S → k < length (S .ln)
   unfolding otherPlaces
-  other-below k m = below-out (length (S .ln)) (keep-out (λ i. not (isName S (getD (S .ln) i tru))) (below (length (S .ln))) m .0)
+  other-below k m = kept-below (λ i. not (isName S (getD (S .ln) i tru))) (length (S .ln)) k .0 m .0
+
+  pub value-below : (k : ℕ) → k ∈ valuePlaces S → k < length (S .ln)
+  unfolding valuePlaces
+  value-below k m = kept-below (λ i. isValue S (getD (S .ln) i tru)) (length (S .ln)) k .0 m .0

@@ -1,3 +1,3 @@
 pub mod Prepared
-pub mod Split
+pub mod Places
 pub mod Width

@@ -4,7 +4,7 @@ use Prim.Native.Nat.{ℕ}
 use lib.ListN.{take}
 use Rattle.ctl.specs.Tableau.{Tableau}
 use Rattle.ctl.specs.Demand3.{sheetTableau}
-use Rattle.sheet.specs.Reading.{formulas, globalsOf, goalOf, isName, spellOf}
+use Rattle.sheet.specs.Reading.{formulas, globalsOf, goalOf, isName, spellOf, valuesIn}
 use Rattle.reader.specs.declared.Reading.{Reading}
 
 abbrev pub tableOf : Reading → List ℕ
@@ -18,4 +18,4 @@ abbrev pub kindsOf : Reading → List ℕ
 kindsOf r = take (r .symbols) (r .kinds)
 
 abbrev pub tableauIn : List ℕ → Tableau
-tableauIn s = sheetTableau (spellOf s) (isName s) (globalsOf (formulas s)) (goalOf (formulas s))
+tableauIn s = sheetTableau (spellOf s) (isName s) (valuesIn s) (globalsOf (formulas s)) (goalOf (formulas s))

@@ -1,23 +1,31 @@
-// What the tableau needs besides the reader's answer: which of the lean's places are names, and how many words hold its types.
+// What the tableau needs besides the reader's answer: which of the lean's places are names, values and others, and how many words hold its types.
 ghost use mathlib.Core.Path.{_≡_};
-ghost use mathlib.Core.Bool.{cond};
+ghost use mathlib.Core.Bool.{cond, not};
 ghost use Prim.Native.Nat.{ℕ, _+_, _≤_, _<_};
 ghost use lib.ListN.{length, set};
-ghost use Rattle.prepare.specs.Split.{nameWord, Splits, SplitIs};
+ghost use Rattle.prepare.specs.Places.{kindWord, placesBy, Sought, Found};
 ghost use Rattle.prepare.specs.Width.{WordsFor};
 
-// Whether a member's word is a symbol that is a name.
-fn is_name(x: u64, kinds: &[u8]) -> bool
-    ensures { λ r. ⌜ r ≡ nameWord (now (kinds .entry)) x ⌝ }
+// Whether a member's word is a symbol of a kind.
+fn is_kind(x: u64, kinds: &[u8], kind: u8) -> bool
+    requires { ⌜ 0 < kind ⌝ }
+    ensures { λ r. ⌜ r ≡ kindWord (now (kinds .entry)) kind x ⌝ }
 {
     if x % 16 != 2 {
         return false;
     }
     let a = (x / 16 % 65536) as usize;
     if a < kinds.len() {
-        return kinds[a] == 2;
+        return kinds[a] == kind;
     }
     false
+}
+
+// Whether a test came out as asked.
+fn agrees(is: bool, on: bool) -> bool
+    ensures { λ r. ⌜ r ≡ cond on is (not is) ⌝ }
+{
+    if on { is } else { !is }
 }
 
 // x at place n if on is true; the place after.
@@ -32,30 +40,26 @@ fn put_if(store: &mut [u8], n: usize, x: u8, on: bool) -> usize
     n
 }
 
-// How many places are names, and how many are not.
-pub struct Split {
-    pub names: usize,
-    pub others: usize,
-}
-
-// The lean's places that are names, and the others, ascending, each at the beginning of its store.
-pub fn split_lean(ms: &[u64], ln: &[u8], kinds: &[u8], names: &mut [u8], others: &mut [u8]) -> Split
-    requires { ⌜ Splits (now ms) (now ln) (now names) (now others) ⌝ }
-    ensures { λ r. ⌜ SplitIs (now (ms .entry)) (now (ln .entry)) (now (kinds .entry)) (now (names .entry)) (now (others .entry)) (now (names .exit)) (now (others .exit)) r ⌝ }
+// The lean's places that are symbols of a kind, or those that are not where `on` is false, ascending, at the beginning of a store; how many they are.
+pub fn kind_places(
+    ms: &[u64],
+    ln: &[u8],
+    kinds: &[u8],
+    kind: u8,
+    on: bool,
+    store: &mut [u8],
+) -> usize
+    requires { ⌜ (0 < kind) × Sought (now ms) (now ln) (now store) ⌝ }
+    ensures { λ n. ⌜ Found (placesBy on kind (now (ms .entry)) (now (ln .entry)) (now (kinds .entry))) (now (store .entry)) (now (store .exit)) n ⌝ }
 {
     let mut n: usize = 0;
-    let mut m: usize = 0;
     let mut k: usize = 0;
     while k < ln.len() {
-        let on = is_name(ms[ln[k] as usize], kinds);
-        n = put_if(names, n, k as u8, on);
-        m = put_if(others, m, k as u8, !on);
+        let is = is_kind(ms[ln[k] as usize], kinds, kind);
+        n = put_if(store, n, k as u8, agrees(is, on));
         k += 1;
     }
-    Split {
-        names: n,
-        others: m,
-    }
+    n
 }
 
 // How many words hold the types over a lean of that width: 1, 2 or 4.

@@ -1,4 +1,4 @@
--- Refusals computed from the bytes of sheets: document 01's drawn ones, one for each number, and symbols of several letters. Assumes nothing.
+-- Refusals computed from the bytes of sheets: document 01's drawn ones, one for each number, symbols of several letters, and values, all of which count in the lean. Assumes nothing.
 use mathlib.Core.Path.{_≡_, refl}
 use mathlib.Core.List.{List, [], _∷_, _++_, map}
 use Prim.Native.Nat.{ℕ, zero, suc}
@@ -6,7 +6,7 @@ use Rattle.ctl.specs.Modes.{modes, single}
 use Rattle.ctl.specs.Positive.{signed}
 use Rattle.ctl.specs.Expansion.{expand, parts}
 use Rattle.ctl.specs.Closure.{elemF, dedupe, orSpine, andSpine, exSpine, axSpine, spine, closureOf, closureAll, closure}
-use Rattle.ctl.specs.Lean.{bytesLt, printLt, symbolLt, isNext, lean}
+use Rattle.ctl.specs.Lean.{bytesLt, printLt, symbolLt, isNext, withValues, lean}
 use Rattle.layout.specs.Text.{split, ended, same, begins, has}
 use Rattle.layout.specs.Layout.{anyLong, lengthWrong, byteWrong, startsRight, endsRight, layoutRight, textsOf}
 use Rattle.head.specs.Head.{hasText, nameRight, namesFrom, namesOf, kindOf, nameCount, kindRight, kindsFrom, kindsOf, declare, declared}
@@ -48,8 +48,13 @@ cases =
     ∷ (ascii "threadsss waits\nmark field\ngoal 1\n", 4)
     ∷ (ascii "k f\nmark field\ngoal kkkkkkkkk\n", 6)
     ∷ (ascii "k next\nmark field\ngoal EX{neXt}k\n", 6)
+    ∷ (ascii "k a b f\nmark value value field\ngoal EX{f}a\n", 0)
+    ∷ (ascii "k a b f\nmark value value field\ngoal EX{a}k\n", 7)
+    ∷ (ascii "k a b f\nmark value values field\ngoal k\n", 5)
+    ∷ (ascii "a b c d e g h f\nvalue value value value value value value field\ngoal EX{f}1\n", 0)
+    ∷ (ascii "a b c d e g h f\nvalue value value value value value value field\ngoal EX{f}1&EX{F}1\n", 10)
     ∷ []
 
 found : map (λ c. refusalOf (c .0)) cases ≡ map (λ c. c .1) cases
-unfolding split ended same begins has anyLong lengthWrong byteWrong startsRight endsRight layoutRight hasText nameRight namesFrom namesOf kindOf nameCount kindRight kindsFrom kindsOf textsOf declare declared run spelled word entryFrom entryIn skip spaces signOf pairOf runFront plainFront aloneFront headFront frontBy tokenBy tokenAt innerAt choiceOf markedOf withMode modeAt modesAt bracesAt letterLow pathFrom formulaAt unitAt lineAt trees conditions grammarWrong symbolsWrong bracesWrong refusalWithin modes single signed expand parts elemF dedupe orSpine andSpine exSpine axSpine spine closureOf closureAll closure bytesLt printLt symbolLt isNext lean
+unfolding split ended same begins has anyLong lengthWrong byteWrong startsRight endsRight layoutRight hasText nameRight namesFrom namesOf kindOf nameCount kindRight kindsFrom kindsOf textsOf declare declared run spelled word entryFrom entryIn skip spaces signOf pairOf runFront plainFront aloneFront headFront frontBy tokenBy tokenAt innerAt choiceOf markedOf withMode modeAt modesAt bracesAt letterLow pathFrom formulaAt unitAt lineAt trees conditions grammarWrong symbolsWrong bracesWrong refusalWithin modes single signed expand parts elemF dedupe orSpine andSpine exSpine axSpine spine closureOf closureAll closure bytesLt printLt symbolLt isNext withValues lean
 found = refl

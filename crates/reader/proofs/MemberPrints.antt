@@ -23,7 +23,7 @@ use Rattle.head.proofs.Entries.{sheet-entry}
 use Rattle.sheet.specs.Refusal.{decls, readRefusal}
 use Rattle.sheet.specs.Reading.{formulas, spellOf}
 use Rattle.sheet.specs.ReadAs.{ReadAs}
-use Rattle.sheet.specs.Symbols.{MarkOrName, Field, Fields, KindedForm}
+use Rattle.sheet.specs.Symbols.{Proposition, Field, Fields, KindedForm}
 use Rattle.sheet.proofs.Alphabet.{sheet-alphabet}
 use Rattle.sheet.proofs.RefusalLaws.{right-kinds}
 use Rattle.sheet.proofs.FormulaTrees.{as-read}
@@ -36,20 +36,21 @@ module _ (s : List ℕ) (z : readRefusal s ≡ 0) where
       let k = modes-in A i .0 in
       record { some = pow-pos m; sixteen = pow-lt (mode-lt k); each = λ a j. subst (λ n. Field s (n % 8)) (sym (List·Memᴰ·eq-of-singleton (subst (λ l. a ∈ l) (modes-one k) j))) (x .each m i) }
 
-  -- a closure member has only marks and names outside braces, and only fields in braces, as the formulas have
+  -- a closure member has only marks, names and values outside braces, and only fields in braces, as the formulas have
   pub member-kinds : (φ : Form) → φ ∈ members s → KindedForm s φ
-  member-kinds = closure-uses (MarkOrName s) (Fields s) one-field (forms s) (λ φ m. (let r = map-out positive (formulas s) m in subst (KindedForm s) (sym (r .2)) (uses-signed (MarkOrName s) (Fields s) (r .0) (formulas-kinds s z (r .0) (r .1)) .0)))
+  member-kinds = closure-uses (Proposition s) (Fields s) one-field (forms s) (λ φ m. (let r = map-out positive (formulas s) m in subst (KindedForm s) (sym (r .2)) (uses-signed (Proposition s) (Fields s) (r .0) (formulas-kinds s z (r .0) (r .1)) .0)))
 
   -- ---- the declarations know its symbols
   entry-by : (k n : ℕ) → k < length (spellings s) → suc (placeOf k (getD (kinds s) k 0)) ≡ n → entryFor (spellOf s) (decls s) k ≡ n
   entry-by k n h e = sheet-entry s k h (right-kinds s z) ∙ e
 
-  symbol-known : (k : ℕ) → MarkOrName s k → entryFor (spellOf s) (decls s) k ≡ 1 + k
+  symbol-known : (k : ℕ) → Proposition s k → entryFor (spellOf s) (decls s) k ≡ 1 + k
   symbol-known k x = entry-by k (1 + k) (x .0) (rw (ne-eqb (getD (kinds s) k 0) 3 (no (x .1))) (omega arith))
     where
-      no : (getD (kinds s) k 0 ≡ 1) ⊎ (getD (kinds s) k 0 ≡ 2) → getD (kinds s) k 0 ≡ 3 → ⊥
+      no : (getD (kinds s) k 0 ≡ 1) ⊎ ((getD (kinds s) k 0 ≡ 2) ⊎ (getD (kinds s) k 0 ≡ 4)) → getD (kinds s) k 0 ≡ 3 → ⊥
       no (inl e) f = omega arith
-      no (inr e) f = omega arith
+      no (inr (inl e)) f = omega arith
+      no (inr (inr e)) f = omega arith
 
   fields-known : (A : ℕ) → Fields s A → FieldsKnown (spellOf s) (decls s) A
   fields-known A x = (x .some, λ m i. (let f = x .each m i in entry-by (m % 8) (9 + m % 8) (f .0) (rw (eq-eqb (getD (kinds s) (m % 8) 0) 3 (f .1)) (omega arith))))

@@ -1,14 +1,21 @@
 -- From what the reader of sheets, the closing and the lean's finding promise to what the whole reading does. Assumes nothing.
 use mathlib.Core.Path.{_≡_, refl, sym, ap, _∙_, subst}
 use mathlib.Core.Bool.{true}
+use mathlib.Core.Logic.{_⊎_, inl, inr}
 use mathlib.Core.List.{List, [], _∷_, map}
-use Prim.Native.Nat.{ℕ, zero, suc, _-_, _≤_, _<_}
+use Prim.Native.Nat.{ℕ, zero, suc, _+_, _-_, _^_, _≤_, _<_}
 use native.Mathlib.Omega.{arith}
 use lib.ListN.{length, getD, take, length-map}
 use lib.Seq.{getD-take, length-take-le}
+use Rattle.ctl.specs.Lists.{_∈_}
+use Rattle.ctl.specs.Formula.{Form, lit}
 use Rattle.ctl.specs.Raw.{Raw}
-use Rattle.ctl.specs.Alphabet.{Alphabet}
+use Rattle.ctl.specs.Positive.{positive}
+use Rattle.ctl.specs.Print.{print}
+use Rattle.ctl.specs.Alphabet.{Alphabet, Over}
 use Rattle.ctl.specs.Lean.{lean}
+use Rattle.ctl.proofs.ListLaws.{kept-below, map-out}
+use Rattle.ctl.proofs.LeanOrder.{with-out, with-over}
 use Rattle.syntax.specs.Raw.{At}
 use Rattle.layout.specs.Layout.{layoutRight}
 use Rattle.head.specs.Head.{spellings, kinds}
@@ -16,22 +23,28 @@ use Rattle.head.proofs.Spellings.{sheet-spellings}
 use Rattle.sheet.specs.declared.Sheet.{Sheet}
 use Rattle.sheet.specs.Refusal.{readRefusal}
 use Rattle.sheet.specs.Sheet.{SheetRead, Right}
-use Rattle.sheet.specs.Reading.{formulas}
-use Rattle.sheet.proofs.RefusalLaws.{sheet-refusal, right-layout}
+use Rattle.sheet.specs.Reading.{formulas, valuesIn}
+use Rattle.sheet.proofs.RefusalLaws.{sheet-refusal, right-kinds, right-layout}
 use Rattle.sheet.proofs.DeclaredLaws.{formulas-over}
 use Rattle.sheet.proofs.SizeLaws.{formulas-many, texts-five, formula-size, end-within, formula-at}
 use Rattle.sheet.proofs.Alphabet.{sheet-alphabet}
 use Rattle.closure.specs.Given.{Given}
-use Rattle.closure.specs.Closed.{Closes, Tabled, Placed, ClosedIs, within, beyond, ClosedAs}
+use Rattle.closure.specs.Closed.{Closes, Placed, ClosedIs, within, beyond, ClosedAs}
+use Rattle.members.specs.Grown.{Ready, Tabled}
+use Rattle.members.proofs.StepLaws.{grows-at}
+use Rattle.values.specs.Values.{isValue, valueForms, Extended}
+use Rattle.values.proofs.TableLaws.{tabled-with}
+use Rattle.prints.specs.Prints.{spellAt}
+use Rattle.lean.proofs.LengthLaws.{member-length, spell-short}
 use Rattle.lean.specs.Leaned.{Leaning, Leans, Leaned, LeanIs, leaned, packed, LeanAs}
-use Rattle.closure.proofs.GivenLaws.{over-fits}
+use Rattle.closure.proofs.GivenLaws.{over-fits, over-signed}
 use Rattle.closure.specs.declared.Closed.{Closed}
 use Rattle.closure.specs.declared.Closed.the-variants.{Within, Beyond}
 use Rattle.lean.specs.declared.Gathered.{Gathered}
 use Rattle.lean.specs.declared.Gathered.the-variants.{Count, Crowded}
 use Rattle.reader.specs.declared.Reading.{Reading}
 use Rattle.reader.specs.declared.Refusal.the-variants.{Accepted}
-use Rattle.reader.specs.Reader.{numberOf, refusalBy, forms, members, places, refusalWithin, blank, Says, ReadIs, RootsAre}
+use Rattle.reader.specs.Reader.{numberOf, refusalBy, forms, members, tabled, places, refusalWithin, blank, Says, ReadIs, RootsAre}
 use Rattle.spelling.specs.Spelling.{word}
 use Rattle.reader.proofs.SpellLaws.{spell-line}
 use Rattle.reader.proofs.NumberLaws.{number-by, read-eight, within-read, within-nine, within-ten, within-none, within-zero}
@@ -77,8 +90,21 @@ module _ {s tab′ : List ℕ} {h : Sheet} (x : SheetRead s tab′ h) where
     lines-five : h .lines ≤ 5
     lines-five = let a = texts-five s none in let b = right .lines in omega arith
 
+    -- at most 8 symbols have a kind, and values are among them
+    kinds-few : length (kinds s) ≤ 8
+    kinds-few = let a = right-kinds s none in let b = sheet-spellings s .few in omega arith
+
+    values-few : (k : ℕ) → k ∈ valuesIn s → k < length (spellings s)
+    values-few k m = let a = kept-below (isValue (kinds s)) (length (kinds s)) k .0 m .0 in let b = right-kinds s none in omega arith
+
+    forms-over : (p : Form) → p ∈ forms s → Over (length (spellings s)) p
+    forms-over p m = let r = map-out positive (formulas s) m in subst (Over (length (spellings s))) (sym (r .2)) (over-signed (length (spellings s)) (r .0) (formulas-over s none (r .0) (r .1)) .0)
+
     pub words-line : take (h .symbols) (h .words) ≡ map word (spellings s)
     words-line = right .words-are
+
+    pub kinds-within : h .symbols ≤ length (h .kinds)
+    kinds-within = let a = right-kinds s none in let b = right .symbols in take-within (h .symbols) (h .kinds) (omega (arith, ap length (right .kinds-are)))
 
     pub symbols-within : h .symbols ≤ length (h .words)
     symbols-within = take-within (h .symbols) (h .words) (ap length words-line ∙ length-map (spellings s) word ∙ sym (right .symbols))
@@ -105,7 +131,7 @@ module _ {s tab′ : List ℕ} {h : Sheet} (x : SheetRead s tab′ h) where
         at = λ j l. (let n = roots-length in subst (λ k. At tab′ (getD (formulas s) j Raw.zero) k) (sym (root-at j l)) (formula-at s none (right .lines) (right .stored) j (omega arith)));
       }
 
-      pub closes : {tab places : List ℕ} → length tab ≡ 128 → length places ≡ 5 → Closes tab′ roots tab places
+      pub closes : {tab places : List ℕ} → length tab ≡ 136 → length places ≡ 5 → Closes tab′ roots tab places
       closes {tab} {places} a b = record {
         few = full .1;
         roots-in = λ j l. (let some = full .0 in let n = roots-length in let e = root-at j l in let w = end-within s none (right .lines) (right .stored) j (omega arith) in omega arith);
@@ -118,7 +144,7 @@ module _ {s tab′ : List ℕ} {h : Sheet} (x : SheetRead s tab′ h) where
 
       -- ---- the closure was found, or is too large
 
-      module _ {most : ℕ} (limit : most ≤ 128) {tab tab₁ places₀ places₁ : List ℕ} (long : length tab ≡ 128) {a : Closed} (found : ClosedAs tab′ roots tab tab₁ places₀ places₁ a) where
+      module _ {most : ℕ} (limit : most ≤ 128) {tab tab₁ places₀ places₁ : List ℕ} (long : length tab ≡ 136) {a : Closed} (found : ClosedAs tab′ roots tab tab₁ places₀ places₁ a) where
         pub refused-beyond : {wide : ℕ} {r : Reading} → a ≡ Beyond → r ≡ blank (refusalBy 9) → ReadIs most wide s r
         refused-beyond {wide} {r} e b = go (subst (ClosedIs (forms s) tab tab₁ places₀ places₁) e (found (formulas s) given))
           where
@@ -129,11 +155,17 @@ module _ {s tab′ : List ℕ} {h : Sheet} (x : SheetRead s tab′ h) where
           case : ClosedIs (forms s) tab tab₁ places₀ places₁ (Within m)
           case = subst (ClosedIs (forms s) tab tab₁ places₀ places₁) e (found (formulas s) given)
 
-          table-is : Tabled (forms s) tab₁ m
+          table-is : Tabled (members s) tab₁ m
           table-is = go case
             where
-              go : ClosedIs (forms s) tab tab₁ places₀ places₁ (Within m) → Tabled (forms s) tab₁ m
+              go : ClosedIs (forms s) tab tab₁ places₀ places₁ (Within m) → Tabled (members s) tab₁ m
               go (within t p n d q) = t
+
+          room-is : length tab₁ ≡ 136
+          room-is = go case
+            where
+              go : ClosedIs (forms s) tab tab₁ places₀ places₁ (Within m) → length tab₁ ≡ 136
+              go (within t p n d q) = n ∙ long
 
           places-are : Placed (forms s) tab₁ places₁ m
           places-are = go case
@@ -144,58 +176,88 @@ module _ {s tab′ : List ℕ} {h : Sheet} (x : SheetRead s tab′ h) where
           pub refused-many : {wide : ℕ} {r : Reading} → most < m → r ≡ blank (refusalBy 9) → ReadIs most wide s r
           refused-many {wide} l b = let c = table-is .count in refused-is (omega arith) (λ z. omega arith) (within-nine most wide s none (omega arith)) b
 
-          -- ---- its lean was found, or is too long
+          -- ---- the values that do not occur were put behind it
 
-          module _ {wide : ℕ} (fits : m ≤ most) (short : wide ≤ 12) {ls : List ℕ} (line : ls ≡ map word (spellings s)) where
-            leaning : Leaning (formulas s) (length (spellings s)) tab₁ m ls
-            leaning = record {
-              tabled = table-is;
-              spellings = subst (λ k. Alphabet k (length (spellings s))) (sym (spell-line s line)) (sheet-alphabet s);
-              over = formulas-over s none;
-              short = λ p i. (let k = formula-size s none (right .lines) (right .stored) p i in omega arith);
-            }
+          module _ {wide : ℕ} (fits : m ≤ most) (short : wide ≤ 12) where
+            pub values-ask : Ready tab₁ m × (m + length (take (h .symbols) (h .kinds)) ≤ length tab₁)
+            values-ask =
+                let n = room-is in
+                (record { room = table-is .room; small = omega arith; members = table-is .members }, omega (arith, ap length (right .kinds-are), kinds-few))
 
-            pub leans : Leans tab₁ m ls
-            leans = record { formulas = formulas s; count = length (spellings s); leaning = leaning }
+            module _ {tab₂ : List ℕ} {v : ℕ} (put : Extended (valueForms (take (h .symbols) (h .kinds))) tab₁ m tab₂ v) where
+              extended : Extended (map lit (valuesIn s)) tab₁ m tab₂ v
+              extended = subst (λ ks. Extended (valueForms ks) tab₁ m tab₂ v) (right .kinds-are) put
 
-            module _ {l l′ : List ℕ} (room : length l ≡ 12) {g : Gathered} (gathered : LeanAs tab₁ m ls l l′ g) where
-              lean-case : LeanIs (places s) (take m tab₁) l l′ g
-              lean-case = subst (λ k. LeanIs (lean k (members s)) (take m tab₁) l l′ g) (spell-line s line) (gathered (formulas s) (length (spellings s)) leaning)
+              all-tabled : Tabled (tabled s) tab₂ v
+              all-tabled = tabled-with (valuesIn s) table-is extended
 
-              pub refused-crowded : {r : Reading} → g ≡ Crowded → r ≡ blank (refusalBy 10) → ReadIs most wide s r
-              refused-crowded {r} q b = go (subst (LeanIs (places s) (take m tab₁) l l′) q lean-case)
-                where
-                  go : LeanIs (places s) (take m tab₁) l l′ Crowded → ReadIs most wide s r
-                  go (packed k n) = refused-is (omega arith) (λ z. omega arith) (within-ten most wide s none (let c = table-is .count in omega arith) (omega arith)) b
+              still-placed : Placed (forms s) tab₂ places₁ v
+              still-placed = record {
+                below = λ j l. (let a = places-are .below j l in let b = extended .up in omega arith);
+                at = λ j l. grows-at (extended .grows) (getD places₁ j 0) (let a = places-are .below j l in omega (arith, length-take-le m tab₁ (table-is .room))) ∙ places-are .at j l;
+              }
 
-              module _ {w : ℕ} (q : g ≡ Count w) where
-                width-is : Leaned (places s) (take m tab₁) l l′ w
-                width-is = go (subst (LeanIs (places s) (take m tab₁) l l′) q lean-case)
+              -- ---- its lean was found, or is too long
+
+              module _ {ls : List ℕ} (line : ls ≡ map word (spellings s)) where
+                -- a print is no longer than that of a closure member of a formula of 1024 nodes
+                brief : (p : Form) → p ∈ tabled s → length (print (spellAt ls) p) < 2 ^ 32
+                unfolding print
+                brief p i = go p (with-out (members s) (valuesIn s) i)
                   where
-                    go : LeanIs (places s) (take m tab₁) l l′ (Count w) → Leaned (places s) (take m tab₁) l l′ w
-                    go (leaned x) = x
+                    go : (p : Form) → (p ∈ members s) ⊎ ((k : ℕ) × (k ∈ valuesIn s) × (p ≡ lit k)) → length (print (spellAt ls) p) < 2 ^ 32
+                    go p (inl c) = let k = member-length (spellAt ls) (spell-short ls) (formulas s) 1024 (λ f j. (let a = formula-size s none (right .lines) (right .stored) f j in omega arith)) p c in omega arith
+                    go p (inr w) = subst (λ f. length (print (spellAt ls) f) < 2 ^ 32) (sym (w .2)) (let k = spell-short ls (w .0) in omega arith)
 
-                pub refused-wide : {r : Reading} → wide < w → r ≡ blank (refusalBy 10) → ReadIs most wide s r
-                refused-wide k b = let c = width-is .count in refused-is (omega arith) (λ z. omega arith) (within-ten most wide s none (let d = table-is .count in omega arith) (omega arith)) b
+                leaning : Leaning (tabled s) (length (spellings s)) tab₂ v ls
+                leaning = record {
+                  tabled = all-tabled;
+                  spellings = subst (λ k. Alphabet k (length (spellings s))) (sym (spell-line s line)) (sheet-alphabet s);
+                  over = with-over (length (spellings s)) (forms s) forms-over (valuesIn s) values-few;
+                  short = brief;
+                }
 
-                pub accepted-is : w ≤ wide
-                    → ReadIs most wide s (record { refusal = Accepted; symbols = h .symbols; words = h .words; kinds = h .kinds; formulas = h .lines; places = places₁; count = m; members = tab₁; width = w; lean = l′ })
-                accepted-is k =
-                    let zero-is : refusalWithin most wide s ≡ 0 = within-none most wide s none (let d = table-is .count in omega arith) (let c = width-is .count in omega arith) in
-                    record {
-                      is = sym zero-is;
-                      accepted = λ _. record {
-                        symbols = right .symbols;
-                        words-are = right .words-are;
-                        kinds-are = right .kinds-are;
-                        many = right .lines ∙ sym (formulas-many s none);
-                        tabled = table-is;
-                        placed = places-are;
-                        lean-many = width-is .count;
-                        lean-are = width-is .members;
-                      };
-                      refused = λ n. absurd (n zero-is);
-                    }
+                pub leans : Leans tab₂ v ls
+                leans = record { formulas = tabled s; count = length (spellings s); leaning = leaning }
+
+                module _ {l l′ : List ℕ} (room : length l ≡ 12) {g : Gathered} (gathered : LeanAs tab₂ v ls l l′ g) where
+                  lean-case : LeanIs (places s) (take v tab₂) l l′ g
+                  lean-case = subst (λ k. LeanIs (lean k (tabled s)) (take v tab₂) l l′ g) (spell-line s line) (gathered (tabled s) (length (spellings s)) leaning)
+
+                  pub refused-crowded : {r : Reading} → g ≡ Crowded → r ≡ blank (refusalBy 10) → ReadIs most wide s r
+                  refused-crowded {r} q b = go (subst (LeanIs (places s) (take v tab₂) l l′) q lean-case)
+                    where
+                      go : LeanIs (places s) (take v tab₂) l l′ Crowded → ReadIs most wide s r
+                      go (packed k n) = refused-is (omega arith) (λ z. omega arith) (within-ten most wide s none (let c = table-is .count in omega arith) (omega arith)) b
+
+                  module _ {w : ℕ} (q : g ≡ Count w) where
+                    width-is : Leaned (places s) (take v tab₂) l l′ w
+                    width-is = go (subst (LeanIs (places s) (take v tab₂) l l′) q lean-case)
+                      where
+                        go : LeanIs (places s) (take v tab₂) l l′ (Count w) → Leaned (places s) (take v tab₂) l l′ w
+                        go (leaned x) = x
+
+                    pub refused-wide : {r : Reading} → wide < w → r ≡ blank (refusalBy 10) → ReadIs most wide s r
+                    refused-wide k b = let c = width-is .count in refused-is (omega arith) (λ z. omega arith) (within-ten most wide s none (let d = table-is .count in omega arith) (omega arith)) b
+
+                    pub accepted-is : w ≤ wide
+                        → ReadIs most wide s (record { refusal = Accepted; symbols = h .symbols; words = h .words; kinds = h .kinds; formulas = h .lines; places = places₁; count = v; members = tab₂; width = w; lean = l′ })
+                    accepted-is k =
+                        let zero-is : refusalWithin most wide s ≡ 0 = within-none most wide s none (let d = table-is .count in omega arith) (let c = width-is .count in omega arith) in
+                        record {
+                          is = sym zero-is;
+                          accepted = λ _. record {
+                            symbols = right .symbols;
+                            words-are = right .words-are;
+                            kinds-are = right .kinds-are;
+                            many = right .lines ∙ sym (formulas-many s none);
+                            tabled = all-tabled;
+                            placed = still-placed;
+                            lean-many = width-is .count;
+                            lean-are = width-is .members;
+                          };
+                          refused = λ n. absurd (n zero-is);
+                        }
 
 -- ---- the goal's text
 

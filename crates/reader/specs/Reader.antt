@@ -7,13 +7,14 @@ use lib.Dec.{ltb}
 use Rattle.ctl.specs.Formula.{Form, tru}
 use Rattle.ctl.specs.Positive.{positive}
 use Rattle.ctl.specs.Closure.{closure}
-use Rattle.ctl.specs.Lean.{lean}
+use Rattle.ctl.specs.Lean.{withValues, lean}
 use Rattle.head.specs.Head.{spellings, kinds}
 use Rattle.spelling.specs.Spelling.{word}
 use Rattle.sheet.specs.Refusal.{conditions, firstOf}
-use Rattle.sheet.specs.Reading.{formulas, spellOf}
+use Rattle.sheet.specs.Reading.{formulas, spellOf, valuesIn}
 use Rattle.members.specs.Members as Members
-use Rattle.closure.specs.Closed.{Tabled, Placed}
+use Rattle.members.specs.Grown.{Tabled}
+use Rattle.closure.specs.Closed.{Placed}
 use Rattle.reader.specs.declared.Refusal.{Refusal}
 use Rattle.reader.specs.declared.Refusal.the-variants.{Accepted, Length, Byte, Layout, Names, Kinds, Grammar, Symbol, Braces, Closure, Lean}
 use Rattle.reader.specs.declared.Reading.{Reading}
@@ -37,15 +38,18 @@ numberOf Lean = 10
 abbrev pub refusalBy : ℕ → Refusal
 refusalBy k = getD (Accepted ∷ Length ∷ Byte ∷ Layout ∷ Names ∷ Kinds ∷ Grammar ∷ Symbol ∷ Braces ∷ Closure ∷ []) k Lean
 
--- the formulas in positive form, their closure, and its lean
+-- the formulas in positive form, their closure, that with the values that do not occur, and its lean
 abbrev pub forms : List ℕ → List Form
 forms s = map positive (formulas s)
 
 abbrev pub members : List ℕ → List Form
 members s = closure (forms s)
 
+abbrev pub tabled : List ℕ → List Form
+tabled s = withValues (valuesIn s) (members s)
+
 abbrev pub places : List ℕ → List Form
-places s = lean (spellOf s) (members s)
+places s = lean (spellOf s) (tabled s)
 
 -- the lowest of the refusals 1 to 10 that applies, over the whole sheet, where the closure may have `most` members and the lean `wide` places: 9, closure: over its limit; 10, lean: over its limit
 unfoldable pub refusalWithin : ℕ → ℕ → List ℕ → ℕ
@@ -59,7 +63,7 @@ refusalOf s = refusalWithin 64 8 s
 
 -- a refusal, and nothing else
 abbrev pub blank : Refusal → Reading
-blank k = record { refusal = k; symbols = 0; words = replicate 8 0; kinds = replicate 8 0; formulas = 0; places = replicate 5 0; count = 0; members = replicate 128 0; width = 0; lean = replicate 12 0 }
+blank k = record { refusal = k; symbols = 0; words = replicate 8 0; kinds = replicate 8 0; formulas = 0; places = replicate 5 0; count = 0; members = replicate 136 0; width = 0; lean = replicate 12 0 }
 
 -- what a sheet that is accepted says
 pub record Says (s : List ℕ) (r : Reading) : Type 0 where
@@ -67,7 +71,7 @@ pub record Says (s : List ℕ) (r : Reading) : Type 0 where
   pub words-are : take (r .symbols) (r .words) ≡ map word (spellings s)
   pub kinds-are : take (r .symbols) (r .kinds) ≡ kinds s
   pub many : r .formulas ≡ length (formulas s)
-  pub tabled : Tabled (forms s) (r .members) (r .count)
+  pub tabled : Tabled (tabled s) (r .members) (r .count)
   pub placed : Placed (forms s) (r .members) (r .places) (r .count)
   pub lean-many : r .width ≡ length (places s)
   pub lean-are : map (λ i. getD (Members.forms (take (r .count) (r .members))) i tru) (take (r .width) (r .lean)) ≡ places s

@@ -40,8 +40,8 @@ fn refusal_by(k: u8) -> Refusal
     }
 }
 
-// What a sheet says: its symbols' spellings as words and kinds (1 mark, 2 name, 3 field); the members of its closure, each a word over those before it; the places among them of
-// its formulas in positive form, globals first, then the goal; and of its lean, in order.
+// What a sheet says: its symbols' spellings as words and kinds (1 mark, 2 name, 3 field, 4 value); the members of its closure and behind them the values that do not occur, each a
+// word over those before it; the places among them of its formulas in positive form, globals first, then the goal; and of its lean, in order.
 pub struct Reading {
     pub refusal: Refusal,
     pub symbols: usize,
@@ -50,7 +50,7 @@ pub struct Reading {
     pub formulas: usize,
     pub places: [usize; 5],
     pub count: usize,
-    pub members: [u64; 128],
+    pub members: [u64; 136],
     pub width: usize,
     pub lean: [u8; 12],
 }
@@ -67,7 +67,7 @@ fn refused(k: u8) -> Reading
         formulas: 0,
         places: [0usize; 5],
         count: 0,
-        members: [0u64; 128],
+        members: [0u64; 136],
         width: 0,
         lean: [0u8; 12],
     }
@@ -107,15 +107,19 @@ fn read_in(s: &[u8], most: usize, wide: usize, nodes: &mut [u64]) -> Reading
     let n = sheet.lines;
     let ends = sheet.ends;
     let roots = roots_of(ends);
-    let mut members = [0u64; 128];
+    // Room for 128 closure members and 8 values.
+    let mut members = [0u64; 136];
     let mut places = [0usize; 5];
-    let Closed::Within(count) = closure::close(nodes, &roots[..n], &mut members, &mut places) else {
+    let Closed::Within(closed) = closure::close(nodes, &roots[..n], &mut members, &mut places)
+    else {
         return refused(9);
     };
-    if most < count {
+    if most < closed {
         return refused(9);
     }
     let symbols = sheet.symbols;
+    let kinds = sheet.kinds;
+    let count = values::with_values(&kinds[..symbols], &mut members, closed);
     let words = sheet.words;
     let mut lean = [0u8; 12];
     let Gathered::Count(width) = lean::lean_of(&members, count, &words[..symbols], &mut lean) else {
@@ -124,7 +128,6 @@ fn read_in(s: &[u8], most: usize, wide: usize, nodes: &mut [u64]) -> Reading
     if wide < width {
         return refused(10);
     }
-    let kinds = sheet.kinds;
     let refusal = Refusal::Accepted;
     Reading {
         refusal,

@@ -6,10 +6,10 @@ use native.Mathlib.Omega.{arith}
 use lib.ListN.{length}
 use Rattle.wordset.specs.Words.{packed}
 use Rattle.tableau.specs.Families.{Ready}
-use Rattle.start.specs.Starts.{makesAll}
+use Rattle.start.specs.Starts.{inBase}
 use Rattle.tableau.proofs.TableauLaws.{rounds-of, start-types, surviving-types}
 use Rattle.judge.specs.Judged.{Places}
-use Rattle.frame.specs.SetUp.{Accepts, SetUp, globalsIn, leanIn, membersIn, namesIn, othersIn}
+use Rattle.frame.specs.SetUp.{Accepts, SetUp, globalsIn, leanIn, membersIn, namesIn, othersIn, valuesIn}
 use Rattle.frame.specs.declared.Setup.{Setup}
 use Rattle.frame.proofs.VerdictLaws.{framed-verdict}
 use Rattle.fitted.specs.Accepted.{verdictIn}
@@ -21,7 +21,7 @@ module _ {s : List ℕ} {u : Setup} (x : SetUp s u) (e : u .refusal ≡ 0) where
   pub accepted : Accepts s u
   accepted = x .accepts (sym (x .is) ∙ e)
 
-  module _ (newline base₀ : List ℕ) {tw lw base : List ℕ} (f : Ready (membersIn u) (leanIn u) (u .words) tw lw × (base ≡ packed (u .words) (makesAll (membersIn u) (leanIn u) (globalsIn u)) base₀)) (l₀ : length base₀ ≡ 4) where
+  module _ (newline base₀ : List ℕ) {tw lw base : List ℕ} (f : Ready (membersIn u) (leanIn u) (u .words) tw lw × (base ≡ packed (u .words) (inBase (membersIn u) (leanIn u) (globalsIn u) (valuesIn u)) base₀)) (l₀ : length base₀ ≡ 4) where
     enough : u .words ≤ length base₀
     enough = let w = accepted .framed .few-words .1 in omega arith
 

@@ -102,20 +102,11 @@ fn report_in(sheet: &[u8], u: Setup, newline: &[u8], done: &mut u64, lw: &mut [u
 {
     let members = u.members;
     let lean = u.lean;
-    let everywhere = u.everywhere;
     let named = u.named;
     let unnamed = u.unnamed;
-    let mut tw = [0u64; 256];
+    let mut tw = [0u64; 288];
     let mut base = [0u64; 4];
-    frame::fill(
-        &members[..u.count],
-        &lean[..u.width],
-        u.words,
-        &everywhere[..u.globals],
-        &mut tw,
-        lw,
-        &mut base,
-    );
+    frame::fill(u, &mut tw, lw, &mut base);
     let mut out = [0u8; 8192];
     write_pages(
         sheet,

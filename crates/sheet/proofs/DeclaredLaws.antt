@@ -1,4 +1,4 @@
--- The formulas of a sheet that is not refused have only marks and names outside braces, and only fields in braces. Assumes nothing.
+-- The formulas of a sheet that is not refused have only marks, names and values outside braces, and only fields in braces. Assumes nothing.
 use mathlib.Core.Path.{_≡_, refl, sym, _∙_, subst}
 use mathlib.Core.Logic.{inl, inr}
 use mathlib.Core.Bool.{Bool, true, false, not, _&&_, _||_}
@@ -31,7 +31,7 @@ use Rattle.head.specs.Head.{spellings}
 use Rattle.head.proofs.Spellings.{sheet-spellings}
 use Rattle.sheet.specs.Refusal.{decls, readRefusal}
 use Rattle.sheet.specs.Reading.{formulas}
-use Rattle.sheet.specs.Symbols.{MarkOrName, Field, Fields, Kinded}
+use Rattle.sheet.specs.Symbols.{Proposition, Field, Fields, Kinded}
 use Rattle.sheet.proofs.RefusalLaws.{right-kinds}
 use Rattle.sheet.proofs.FormulaTrees.{formula-read}
 use Rattle.sheet.proofs.KindLaws.{symbol-iff, field-iff}
@@ -108,12 +108,12 @@ fields-declared s A x = (x .sixteen, λ m i. go m (x .each m i .0) (mode-lt (mod
 
 -- ---- a sheet that is not refused
 module _ (s : List ℕ) (z : readRefusal s ≡ 0) where
-  symbol-kind : (k : ℕ) → isSymbol (decls s) k ≡ true → MarkOrName s (entryOf (decls s) k - 1)
+  symbol-kind : (k : ℕ) → isSymbol (decls s) k ≡ true → Proposition s (entryOf (decls s) k - 1)
   symbol-kind k e =
       let r = symbol-iff s (right-kinds s z) k .0 (T-true (isSymbol (decls s) k) e) in
       let i = r .3 in
       let q : r .0 ≡ entryOf (decls s) k - 1 = omega arith in
-      subst (MarkOrName s) q (r .2)
+      subst (Proposition s) q (r .2)
 
   mode-field : (m : Mode) → T (isField (decls s) m) → (modeNumber (decls s) m < 16) × Field s (modeNumber (decls s) m % 8)
   mode-field (forward k) t =
@@ -151,12 +151,12 @@ module _ (s : List ℕ) (z : readRefusal s ≡ 0) where
           let q : m ≡ modeNumber (decls s) n = eqb→eq m (modeNumber (decls s) n) (and-1 (isField (decls s) n) (eqb m (modeNumber (decls s) n)) (r .2)) in
           subst (λ j. Field s (j % 8)) (sym q) (mode-field n t .1)
 
-  -- every formula has only marks and names outside braces, and in braces only fields, some in each
+  -- every formula has only marks, names and values outside braces, and in braces only fields, some in each
   pub formulas-kinds : (p : Raw) → p ∈ formulas s → Kinded s p
   formulas-kinds p m =
       let r = formula-read s z p m in
       let x = r .2 in
-      subst (Kinded s) (sym (x .is)) (tree-uses (MarkOrName s) (Fields s) (decls s) symbol-kind set-fields (x .tree) (x .symbols-right) (x .braces-right))
+      subst (Kinded s) (sym (x .is)) (tree-uses (Proposition s) (Fields s) (decls s) symbol-kind set-fields (x .tree) (x .symbols-right) (x .braces-right))
 
   -- so all its symbols and fields are declared
   pub formulas-over : (p : Raw) → p ∈ formulas s → OverRaw (length (spellings s)) p

@@ -1,10 +1,11 @@
--- What a sheet says that is not refused: its globals and its goal as typed, a symbol's spelling, and whether it is a name. Assumes nothing.
+-- What a sheet says that is not refused: its globals and its goal as typed, a symbol's spelling, whether it is a name, and the declared values. Assumes nothing.
 use mathlib.Core.Bool.{Bool}
 use mathlib.Core.List.{List, [], _∷_}
 use Prim.Native.Nat.{ℕ}
-use lib.ListN.{getD}
+use lib.ListN.{length, getD}
 use lib.Dec.{eqb}
 use Rattle.ctl.specs.Raw.{Raw}
+use Rattle.ctl.specs.Snapshot.{valuesOf}
 use Rattle.head.specs.Head.{spellings, kinds}
 use Rattle.layout.specs.Layout.{texts}
 use Rattle.sheet.specs.Refusal.{decls}
@@ -25,9 +26,12 @@ goalOf (p ∷ q ∷ r) = goalOf (q ∷ r)
 abbrev pub formulas : List ℕ → List Raw
 formulas s = trees (decls s) (texts s)
 
--- a symbol's spelling; whether a symbol is a name (kinds: 1 mark, 2 name, 3 field)
+-- a symbol's spelling; whether a symbol is a name (kinds: 1 mark, 2 name, 3 field, 4 value); the declared values, in line 1 order
 abbrev pub spellOf : List ℕ → ℕ → List ℕ
 spellOf s k = getD (spellings s) k []
 
 abbrev pub isName : List ℕ → ℕ → Bool
 isName s k = eqb (getD (kinds s) k 0) 2
+
+abbrev pub valuesIn : List ℕ → List ℕ
+valuesIn s = valuesOf (λ k. eqb (getD (kinds s) k 0) 4) (length (kinds s))

@@ -1,4 +1,4 @@
--- The kinds of a sheet's symbols, and formulas that keep to them: marks and names outside braces, fields in braces. Assumes nothing.
+-- The kinds of a sheet's symbols, and formulas that keep to them: marks, names and values outside braces, fields in braces. Assumes nothing.
 use mathlib.Core.Path.{_≡_}
 use mathlib.Core.Logic.{_⊎_}
 use mathlib.Core.List.{List, []}
@@ -17,9 +17,9 @@ module _ (s : List ℕ) where
   abbrev pub DeclaredAs : ℕ → ℕ → Type 0
   DeclaredAs k j = (j < length (spellings s)) × (word (getD (spellings s) j []) ≡ k)
 
-  -- symbol j is declared, on line 2 as a mark (kind 1) or a name (2); as a field (3)
-  abbrev pub MarkOrName : ℕ → Type 0
-  MarkOrName j = (j < length (spellings s)) × ((getD (kinds s) j 0 ≡ 1) ⊎ (getD (kinds s) j 0 ≡ 2))
+  -- symbol j is declared, on line 2 as a mark (kind 1), a name (2) or a value (4): an atomic proposition; or as a field (3)
+  abbrev pub Proposition : ℕ → Type 0
+  Proposition j = (j < length (spellings s)) × ((getD (kinds s) j 0 ≡ 1) ⊎ ((getD (kinds s) j 0 ≡ 2) ⊎ (getD (kinds s) j 0 ≡ 4)))
 
   abbrev pub Field : ℕ → Type 0
   Field j = (j < length (spellings s)) × (getD (kinds s) j 0 ≡ 3)
@@ -30,9 +30,9 @@ module _ (s : List ℕ) where
     pub sixteen : A < 2 ^ 16
     pub each : (m : ℕ) → m ∈ modes A → Field (m % 8)
 
-  -- a formula as typed, and a positive one, has only marks and names outside braces, and only fields in braces
+  -- a formula as typed, and a positive one, has only marks, names and values outside braces, and only fields in braces
   abbrev pub Kinded : Raw → Type 0
-  Kinded p = UsesRaw MarkOrName Fields p
+  Kinded p = UsesRaw Proposition Fields p
 
   abbrev pub KindedForm : Form → Type 0
-  KindedForm p = Uses MarkOrName Fields p
+  KindedForm p = Uses Proposition Fields p

@@ -88,7 +88,7 @@ fn read_formulas(s: &[u8], from: usize, decl: &[u64], tab: &mut [u64]) -> Formul
     }
 }
 
-// A sheet that was read: the lowest of the refusals 1 to 8, 0 for none; the symbols' number, spellings as words and kinds (1 mark, 2 name, 3 field); and the
+// A sheet that was read: the lowest of the refusals 1 to 8, 0 for none; the symbols' number, spellings as words and kinds (1 mark, 2 name, 3 field, 4 value); and the
 // formulas, globals first, then the goal.
 pub struct Sheet {
     pub refusal: u8,

@@ -1,11 +1,11 @@
--- Numbers below n that fail a test, pass it, or are two that pass. Assumes nothing.
+-- Numbers below n that fail a test, pass it, are two that pass, or are the only one that does. Assumes nothing.
 use Prim.Native.Nat.{ℕ, zero, suc, _+_, _≤_, _<_}
 use native.Mathlib.Omega.{arith}
 use mathlib.Core.Path.{_≡_, refl, sym, ap, _∙_}
 use mathlib.Core.Logic.{_⊎_, inl, inr}
 use mathlib.Core.Bool.{Bool, true, false, _&&_, true≢false}
 use Rattle.wordset.specs.Below.{one, allBelow, anyBelow, countBelow, least}
-use Rattle.wordset.proofs.BelowLaws.{top, least-lt, least-holds}
+use Rattle.wordset.proofs.BelowLaws.{lt-or-le, top, least-lt, least-holds}
 
 module _ (P : ℕ → Bool) where
   pub some-fails : (n : ℕ) → allBelow n P ≡ false → (i : ℕ) × (i < n) × (P i ≡ false)
@@ -74,3 +74,35 @@ module _ (P : ℕ → Bool) where
       go (inr l) ih =
           let r = ih (record { first = t .first; second = t .second; apart = t .apart; within = l; first-passes = t .first-passes; second-passes = t .second-passes }) in
           omega arith
+
+  -- where at most one is counted, no two pass
+  pub counted-same : (n : ℕ) → countBelow n P ≤ 1 → (i j : ℕ) → i < n → j < n → P i ≡ true → P j ≡ true → i ≡ j
+  counted-same n c i j hi hj pi pj = go (lt-or-le i j) (lt-or-le j i)
+    where
+      not-two : Two n → ⊥
+      not-two t = let h = counted-two n t in omega arith
+
+      go : (i < j) ⊎ (j ≤ i) → (j < i) ⊎ (i ≤ j) → i ≡ j
+      go (inl l) m = absurd (not-two (record { first = i; second = j; apart = l; within = hj; first-passes = pi; second-passes = pj }))
+      go (inr l) (inl m) = absurd (not-two (record { first = j; second = i; apart = m; within = hi; first-passes = pj; second-passes = pi }))
+      go (inr l) (inr m) = omega arith
+
+  -- one number below n passes, and no other
+  pub record Only (n : ℕ) : Type 0 where
+    pub the : ℕ
+    pub within : the < n
+    pub passes : P the ≡ true
+    pub no-other : (j : ℕ) → j < n → P j ≡ true → j ≡ the
+
+  pub only-counted : (n : ℕ) → countBelow n P ≡ 1 → Only n
+  only-counted n e =
+      let r = one-counted n (omega arith) in
+      record { the = r .0; within = r .1; passes = r .2; no-other = λ j h p. counted-same n (omega arith) j (r .0) h (r .1) p (r .2) }
+
+  -- where another number than 1 is counted, none passes, or two do
+  pub not-one-counted : (n : ℕ) → (countBelow n P ≡ 1 → ⊥) → ((i : ℕ) → i < n → P i ≡ true → ⊥) ⊎ Two n
+  not-one-counted n f = go (lt-or-le (countBelow n P) 1)
+    where
+      go : (countBelow n P < 1) ⊎ (1 ≤ countBelow n P) → ((i : ℕ) → i < n → P i ≡ true → ⊥) ⊎ Two n
+      go (inl l) = inl (λ i h p. let c = counted-one n i h p in omega arith)
+      go (inr l) = inr (two-counted n (omega arith))

@@ -3,16 +3,20 @@ use Prim.Native.Nat.{ℕ, _+_, _*_, _≤_, _<_}
 use native.Mathlib.Omega.{arith}
 use native.Mathlib.Numerals.{add-one}
 use mathlib.Core.Path.{_≡_, refl, sym, ap, ap₂, _∙_, subst}
-use mathlib.Core.Bool.{Bool, true, false, cond, _&&_}
+use mathlib.Core.Bool.{Bool, true, false, cond, not, _&&_}
 use mathlib.Core.List.{List}
 use lib.Dec.{eqb, leb}
 use lib.ListN.{length, getD}
 use borrow.Author.Tests.{eq-eqb, ne-eqb, lt-leb, le-leb}
-use Rattle.wordset.specs.Below.{one, countBelow}
+use Rattle.wordset.specs.Below.{one, anyBelow, countBelow}
 use Rattle.wordset.proofs.BelowLaws.{all-intro, all-false, any-intro, any-none}
 use Rattle.snapshot.specs.declared.Answer.{Answer}
 use Rattle.snapshot.specs.declared.Answer.the-variants.{Nodes, Refused}
-use Rattle.snapshot.specs.Read.{limit, lineFits, fits, onCount, twice, judged, Few}
+use Rattle.snapshot.specs.Read.{limit, lineFits, fits, onCount, twice, isValue, heldCount, notOne, judged, Few}
+
+-- node i holds none of the values, or several
+abbrev pub heldNotOne : List ℕ → List ℕ → ℕ → Bool
+heldNotOne kinds out i = not (eqb (heldCount kinds out i) 1)
 
 module _ (kinds : List ℕ) (n : ℕ) (out : List ℕ) where
   -- the entry of symbol k at node i is within its limit
@@ -52,6 +56,22 @@ module _ (kinds : List ℕ) (n : ℕ) (out : List ℕ) where
   unfolding twice nameTwice
   twice-no k h f = sym (any-none nameTwice (length kinds) (λ j l. f j (omega arith)))
 
+  pub no-value : anyBelow (length kinds) (isValue kinds) ≡ false → false ≡ notOne kinds n out
+  unfolding notOne
+  no-value e = simp e
+
+  module _ (v : anyBelow (length kinds) (isValue kinds) ≡ true) where
+    -- where there is a value, the nodes decide
+    pub value-nodes : notOne kinds n out ≡ anyBelow n (heldNotOne kinds out)
+    unfolding notOne
+    value-nodes = simp v
+
+    pub not-one-yes : (i : ℕ) → i < n → (heldCount kinds out i ≡ 1 → ⊥) → true ≡ notOne kinds n out
+    not-one-yes i h f = sym (value-nodes ∙ any-intro (heldNotOne kinds out) n i h (ap not (ne-eqb (heldCount kinds out i) 1 f)))
+
+    pub not-one-no : (i : ℕ) → n ≤ i → ((j : ℕ) → j < i → heldCount kinds out j ≡ 1) → false ≡ notOne kinds n out
+    not-one-no i h f = sym (value-nodes ∙ any-none (heldNotOne kinds out) n (λ j l. ap not (eq-eqb (heldCount kinds out j) 1 (f j (omega arith)))))
+
   -- the answers
   pub judged-13 : n ≡ 0 → Refused 13 ≡ judged kinds n out
   unfolding judged
@@ -66,9 +86,13 @@ module _ (kinds : List ℕ) (n : ℕ) (out : List ℕ) where
     unfolding judged
     judged-15 e f = simp (ne-eqb n 0 h, e, f)
 
-    pub judged-nodes : fits kinds n out ≡ true → twice kinds n out ≡ false → Nodes n ≡ judged kinds n out
+    pub judged-17 : fits kinds n out ≡ true → twice kinds n out ≡ false → notOne kinds n out ≡ true → Refused 17 ≡ judged kinds n out
     unfolding judged
-    judged-nodes e f = simp (ne-eqb n 0 h, e, f)
+    judged-17 e f g = simp (ne-eqb n 0 h, e, f, g)
+
+    pub judged-nodes : fits kinds n out ≡ true → twice kinds n out ≡ false → notOne kinds n out ≡ false → Nodes n ≡ judged kinds n out
+    unfolding judged
+    judged-nodes e f g = simp (ne-eqb n 0 h, e, f, g)
 
 pub one-small : (r : ℕ) (b : Bool) → r ≡ one b → r ≤ 1
 one-small r true e = omega arith
@@ -82,18 +106,20 @@ pub count-none : (P : ℕ → Bool) → 0 ≡ countBelow 0 P
 unfolding countBelow
 count-none P = refl
 
-pub name-no : (kind : ℕ) (t : Bool) → (kind ≡ 2 → ⊥) → false ≡ (eqb kind 2 && t)
-name-no kind t h = simp (ne-eqb kind 2 h)
+-- a test that is asked of one kind only
+pub kind-no : (kind a : ℕ) (t : Bool) → (kind ≡ a → ⊥) → false ≡ (eqb kind a && t)
+kind-no kind a t h = simp (ne-eqb kind a h)
 
-pub name-yes : (kind c d : ℕ) → kind ≡ 2 → c ≡ d → leb 2 c ≡ (eqb kind 2 && leb 2 d)
-name-yes kind c d h e = simp (e, eq-eqb kind 2 h)
+pub kind-yes : (kind a : ℕ) (t u : Bool) → kind ≡ a → t ≡ u → t ≡ (eqb kind a && u)
+kind-yes kind a t u h e = simp (e, eq-eqb kind a h)
 
 pub judged-few : (kinds : List ℕ) (n : ℕ) (out : List ℕ) (a : Answer) → n ≤ 16 → a ≡ judged kinds n out → Few a
 unfolding judged
-judged-few kinds n out a h e = subst Few (sym e) (go (eqb n 0) (fits kinds n out) (twice kinds n out))
+judged-few kinds n out a h e = subst Few (sym e) (go (eqb n 0) (fits kinds n out) (twice kinds n out) (notOne kinds n out))
   where
-    go : (a b c : Bool) → Few (cond a (Refused 13) (cond b (cond c (Refused 15) (Nodes n)) (Refused 14)))
-    go true b c = tt
-    go false true true = tt
-    go false true false = h
-    go false false c = tt
+    go : (a b c d : Bool) → Few (cond a (Refused 13) (cond b (cond c (Refused 15) (cond d (Refused 17) (Nodes n))) (Refused 14)))
+    go true b c d = tt
+    go false true true d = tt
+    go false true false true = tt
+    go false true false false = h
+    go false false c d = tt

@@ -1,11 +1,11 @@
-// The entries of a snapshot against their limits, and its names. Assumes nothing.
+// The entries of a snapshot against their limits, its names and its values. Assumes nothing.
 ghost use mathlib.Core.Path.{_≡_};
 ghost use Prim.Native.Nat.{_+_, _*_, _≤_, _<_};
 ghost use mathlib.Core.Bool.{_&&_};
 ghost use lib.Dec.{eqb, leb};
 ghost use lib.ListN.{length};
-ghost use Rattle.wordset.specs.Below.{one};
-ghost use Rattle.snapshot.specs.Read.{limit, lineFits, fits, onCount, twice};
+ghost use Rattle.wordset.specs.Below.{one, anyBelow};
+ghost use Rattle.snapshot.specs.Read.{limit, lineFits, fits, onCount, twice, isValue, heldCount, notOne};
 
 fn wide(x: u8) -> usize
     ensures { λ r. ⌜ r ≡ x ⌝ }
@@ -98,6 +98,62 @@ pub fn some_twice(kinds: &[u8], n: usize, out: &[u8]) -> bool
             return true;
         }
         k += 1;
+    }
+    false
+}
+
+// Whether any symbol is a value.
+fn some_value(kinds: &[u8]) -> bool
+    ensures { λ r. ⌜ r ≡ anyBelow (length (now (kinds .entry))) (isValue (now (kinds .entry))) ⌝ }
+{
+    let mut k = 0;
+    while k < kinds.len() {
+        if kinds[k] == 4 {
+            return true;
+        }
+        k += 1;
+    }
+    false
+}
+
+// Whether the entry is that of a value that a node holds.
+fn holds(kind: u8, entry: u8) -> bool
+    ensures { λ r. ⌜ r ≡ (eqb kind 4 && eqb entry 1) ⌝ }
+{
+    if kind != 4 {
+        return false;
+    }
+    entry == 1
+}
+
+// How many of the values node i holds.
+fn held_count(kinds: &[u8], out: &[u8], i: usize) -> usize
+    requires { ⌜ (length (now kinds) ≤ 8) × (i * 8 + 8 ≤ length (now out)) ⌝ }
+    ensures { λ r. ⌜ r ≡ heldCount (now (kinds .entry)) (now (out .entry)) i ⌝ }
+{
+    let mut c = 0;
+    let mut k = 0;
+    while k < kinds.len() {
+        c += one_if(holds(kinds[k], out[i * 8 + k]));
+        k += 1;
+    }
+    c
+}
+
+// Whether there is a value, and a node that holds none of the values, or several.
+pub fn some_not_one(kinds: &[u8], n: usize, out: &[u8]) -> bool
+    requires { ⌜ (length (now kinds) ≤ 8) × (n * 8 ≤ length (now out)) ⌝ }
+    ensures { λ r. ⌜ r ≡ notOne (now (kinds .entry)) n (now (out .entry)) ⌝ }
+{
+    if !some_value(kinds) {
+        return false;
+    }
+    let mut i = 0;
+    while i < n {
+        if held_count(kinds, out, i) != 1 {
+            return true;
+        }
+        i += 1;
     }
     false
 }

@@ -1,5 +1,5 @@
 // A snapshot's text with its answer: its entries are read into a store (`snapshot_text`), and held against their limits. The kinds of the symbols, in line 1 order, are
-// 1 for a mark, 2 for a name and 3 for a field. Assumes nothing.
+// 1 for a mark, 2 for a name, 3 for a field and 4 for a value. Assumes nothing.
 mod entries;
 
 ghost use mathlib.Core.Path.{_≡_};
@@ -27,6 +27,9 @@ fn judge(kinds: &[u8], n: usize, out: &[u8]) -> Answer
     }
     if entries::some_twice(kinds, n, out) {
         return Answer::Refused(15);
+    }
+    if entries::some_not_one(kinds, n, out) {
+        return Answer::Refused(17);
     }
     Answer::Nodes(n)
 }

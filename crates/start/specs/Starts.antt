@@ -1,13 +1,13 @@
 -- Start types, by words. Assumes nothing.
-use mathlib.Core.Bool.{Bool, Bool·beq, _&&_}
+use mathlib.Core.Bool.{Bool, Bool·beq, _&&_, _||_}
 use mathlib.Core.List.{List}
 use Prim.Native.Nat.{ℕ, _*_, _/_, _%_, _^_}
-use lib.Dec.{ltb}
+use lib.Dec.{eqb, ltb}
 use lib.ListN.{length, getD}
 use Rattle.ctl.specs.Lists.{imp, keep, below}
 use Rattle.ctl.specs.Numbers.{hasBit}
 use Rattle.ctl.specs.Types.{inType}
-use Rattle.wordset.specs.Below.{allBelow}
+use Rattle.wordset.specs.Below.{allBelow, countBelow}
 use Rattle.wordset.specs.Words.{member}
 use Rattle.truth.specs.Truths.{trueAt}
 
@@ -27,9 +27,14 @@ fitsSet others d t = allBelow (length others) (placeFits others d t)
 unfoldable pub obeysBy : List ℕ → List ℕ → ℕ → ℕ → Bool
 obeysBy names others r t = allBelow (length names) (λ i. imp (inType t (getD names i 0)) (fitsSet others (nameSet others r i) t))
 
--- a type below 2 ^ n that makes all globals true
-unfoldable pub makesAll : List ℕ → List ℕ → List ℕ → ℕ → Bool
-makesAll ms ln globals t = ltb t (2 ^ length ln) && allBelow (length globals) (λ i. trueAt ms ln (getD globals i 0) t)
+-- a type has exactly one of some places, if there are any
+unfoldable pub hasOne : List ℕ → ℕ → Bool
+hasOne values t = eqb (length values) 0 || eqb (countBelow (length values) (λ i. inType t (getD values i 0))) 1
+
+-- what a start type is under every naming: below 2 ^ n, with exactly one of the value places, if there are any, and with all globals true
+unfoldable pub inBase : List ℕ → List ℕ → List ℕ → List ℕ → ℕ → Bool
+unfolding hasOne
+inBase ms ln globals values t = ltb t (2 ^ length ln) && (hasOne values t && allBelow (length globals) (λ i. trueAt ms ln (getD globals i 0) t))
 
 -- the start types of naming r, ascending
 unfoldable pub startList : ℕ → List ℕ → List ℕ → List ℕ → ℕ → List ℕ

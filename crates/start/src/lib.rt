@@ -1,4 +1,4 @@
-// The start types, by words: those that make the globals true, once for all namings, and of them those that obey a naming. Assumes nothing.
+// The start types, by words: those that hold one value and make the globals true, once for all namings, and of them those that obey a naming. Assumes nothing.
 use truth::place_word;
 ghost use mathlib.Core.Path.{_≡_};
 ghost use mathlib.Core.Bool.{_&&_};
@@ -8,7 +8,7 @@ ghost use lib.ListN.{length, getD};
 ghost use Rattle.wordset.specs.Words.{member, packed};
 ghost use Rattle.wordset.specs.Answers.{Answers};
 ghost use Rattle.truth.specs.Truths.{Truths};
-ghost use Rattle.start.specs.Starts.{fitsSet, makesAll, obeysBy, placeFits};
+ghost use Rattle.start.specs.Starts.{fitsSet, hasOne, inBase, obeysBy, placeFits};
 
 const ALL: u64 = 0xFFFF_FFFF_FFFF_FFFF;
 
@@ -32,12 +32,41 @@ fn low_word(n: usize, k: usize) -> u64
     0
 }
 
-// Answers k of the types over the lean in which all globals are true.
-fn base_word(ms: &[u64], ln: &[u8], tw: &[u64], w: usize, globals: &[u8], k: usize) -> u64
+// Answers k of the types that have exactly one of some places; of all types where there are none.
+fn one_word(values: &[u8], k: usize) -> u64
+    requires { ⌜ ((i : ℕ) → i < length (now values) → getD (now values) i 0 ≤ 60) ⌝ }
+    ensures { λ r. ⌜ Answers (hasOne (now (values .entry))) k r ⌝ }
+{
+    if values.len() == 0 {
+        return ALL;
+    }
+    let mut once: u64 = 0;
+    let mut twice: u64 = 0;
+    let mut i = 0;
+    while i < values.len() {
+        let p = place_word(values[i] as usize, k);
+        twice = twice | (once & p);
+        once = once | p;
+        i += 1;
+    }
+    once & !twice
+}
+
+// Answers k of the types over the lean that have exactly one of the value places and in which all globals are true.
+fn base_word(
+    ms: &[u64],
+    ln: &[u8],
+    tw: &[u64],
+    w: usize,
+    globals: &[u8],
+    values: &[u8],
+    k: usize,
+) -> u64
     requires { ⌜ Truths (now ms) (now ln) w (now tw) ⌝ }
     requires { ⌜ (k < w) × (length (now ln) ≤ 60) ⌝ }
     requires { ⌜ ((i : ℕ) → i < length (now globals) → getD (now globals) i 0 < length (now ms)) ⌝ }
-    ensures { λ r. ⌜ Answers (makesAll (now (ms .entry)) (now (ln .entry)) (now (globals .entry))) k r ⌝ }
+    requires { ⌜ ((i : ℕ) → i < length (now values) → getD (now values) i 0 ≤ 60) ⌝ }
+    ensures { λ r. ⌜ Answers (inBase (now (ms .entry)) (now (ln .entry)) (now (globals .entry)) (now (values .entry))) k r ⌝ }
 {
     let mut acc: u64 = ALL;
     let mut i = 0;
@@ -46,19 +75,28 @@ fn base_word(ms: &[u64], ln: &[u8], tw: &[u64], w: usize, globals: &[u8], k: usi
         acc = acc & tw[g * w + k];
         i += 1;
     }
-    low_word(ln.len(), k) & acc
+    low_word(ln.len(), k) & (one_word(values, k) & acc)
 }
 
 // The first w words of base become those types.
-pub fn base_words(ms: &[u64], ln: &[u8], tw: &[u64], w: usize, globals: &[u8], base: &mut [u64])
+pub fn base_words(
+    ms: &[u64],
+    ln: &[u8],
+    tw: &[u64],
+    w: usize,
+    globals: &[u8],
+    values: &[u8],
+    base: &mut [u64],
+)
     requires { ⌜ Truths (now ms) (now ln) w (now tw) ⌝ }
     requires { ⌜ (w ≤ length (now base)) × (length (now ln) ≤ 60) ⌝ }
     requires { ⌜ ((i : ℕ) → i < length (now globals) → getD (now globals) i 0 < length (now ms)) ⌝ }
-    ensures { λ _. ⌜ now (base .exit) ≡ packed w (makesAll (now (ms .entry)) (now (ln .entry)) (now (globals .entry))) (now (base .entry)) ⌝ }
+    requires { ⌜ ((i : ℕ) → i < length (now values) → getD (now values) i 0 ≤ 60) ⌝ }
+    ensures { λ _. ⌜ now (base .exit) ≡ packed w (inBase (now (ms .entry)) (now (ln .entry)) (now (globals .entry)) (now (values .entry))) (now (base .entry)) ⌝ }
 {
     let mut k = 0;
     while k < w {
-        base[k] = base_word(ms, ln, tw, w, globals, k);
+        base[k] = base_word(ms, ln, tw, w, globals, values, k);
         k += 1;
     }
 }

@@ -1,30 +1,34 @@
 -- What the words hold is what ctl's tableau has: start types, rounds, surviving types, the types that have the goal. Assumes nothing.
 use mathlib.Core.Path.{_≡_, refl, sym, ap, ap₂, _∙_, subst}
-use mathlib.Core.Bool.{Bool, false, _&&_}
-use mathlib.Core.List.{List, [], _∷_, map}
+use mathlib.Core.Bool.{Bool, false, _&&_, _||_}
+use mathlib.Core.List.{List, [], _∷_, map, List·Memᴰ·head}
+use mathlib.Core.Logic.{inl}
 use Prim.Native.Nat.{ℕ, zero, suc, _*_, _/_, _%_, _^_, _≤_, _<_}
 use native.Mathlib.Nat.{mod-lt, mul-suc, mul-zero, div-one, add-comm}
 use native.Mathlib.Omega.{arith}
-use lib.Dec.{eqb, ltb, eqb→eq}
+use lib.Dec.{T, eqb, ltb, eqb→eq}
 use lib.ListN.{length, getD, length-map}
 use lib.Pow.{shr-shr, pow-pos}
-use borrow.Author.Tests.{lt-ltb, ltb-true, eq-eqb}
+use borrow.Author.Tests.{lt-ltb, ltb-true, eq-eqb, ne-eqb}
 use Rattle.ctl.specs.Elimination as E
 use Rattle.ctl.specs.Lists as L
 use Rattle.ctl.proofs.BoolLaws.{T-cast, T-cast⁻, T-true, and-0, and-1, and-in, both-ways, true-T}
 use Rattle.ctl.proofs.ListLaws.{ascending-count, ascending-keep, below-in, below-out, keep-in, keep-out}
 use Rattle.ctl.proofs.SortLaws.{ascending-same}
 use Rattle.ctl.proofs.NumberLaws.{number-lt, number-place, same-places}
-use Rattle.ctl.proofs.OrderLaws.{rounds-over, survivors-over}
+use Rattle.ctl.proofs.OrderLaws.{rounds-but, survivors-but}
+use Rattle.ctl.specs.Equality.{num}
+use Rattle.ctl.specs.Formula.{tru}
+use Rattle.ctl.specs.Lean.{isLetter}
 use Rattle.ctl.specs.Links.{linkBy}
 use Rattle.ctl.specs.Lists.{elem, _∈_, below, imp, keep}
 use Rattle.ctl.specs.Numbers.{number}
-use Rattle.ctl.specs.Tableau.{Tableau, obeys, obeysFrom, otherPlaces, pack, startTypes, starts}
+use Rattle.ctl.specs.Tableau.{Tableau, isValue, obeys, obeysFrom, oneHeld, otherPlaces, pack, startTypes, starts, valued, valuePlaces}
 use Rattle.ctl.specs.Types.{inType, truth}
 use Rattle.ctl.specs.Verdict.{goalTypes, roundsOf, survivingTypes}
 use Rattle.wordset.proofs.BelowLaws.{all-elim, all-ext, all-intro}
 use Rattle.wordset.proofs.CompareLaws.{beq-true, beq-refl}
-use Rattle.wordset.specs.Below.{allBelow}
+use Rattle.wordset.specs.Below.{allBelow, countBelow}
 use Rattle.wordset.specs.Words.{member, packed}
 use Rattle.goal.specs.declared.Found.{Found}
 use Rattle.tableau.specs.declared.table.Counts.{Counts}
@@ -33,11 +37,11 @@ use Rattle.truth.specs.Tables.{form, leanForms}
 use Rattle.truth.specs.Truths.{Tr, trueAt}
 use Rattle.tableau.specs.Families.{Rounds, Survivors}
 use Rattle.truth.specs.Blocks.{listOf}
-use Rattle.start.specs.Starts.{fitsSet, makesAll, nameSet, obeysBy, placeFits, startList}
+use Rattle.start.specs.Starts.{fitsSet, hasOne, inBase, nameSet, obeysBy, placeFits, startList}
 use Rattle.goal.specs.Goals.{firstOf}
 use Rattle.tableau.specs.Tabled.{Tabled}
 use Rattle.tableau.specs.Matches.{Matches}
-use Rattle.truth.proofs.ListWords.{all-front, all-list, held}
+use Rattle.truth.proofs.ListWords.{all-front, all-list, count-places, held}
 use Rattle.tableau.proofs.TableWords.{start-ascend, start-below, survivors-list}
 
 -- ---- the other places of a type as a number
@@ -88,16 +92,42 @@ module _ (S : Tableau) (others : List ℕ) (e : otherPlaces S ≡ others) (t : �
       (length vs) (λ i h. ap (λ d. imp (inType t (getD vs i 0)) (fitsSet others d t)) (name-shift others r i))
       ∙ obeys-from vs (r / 2 ^ length others) ∙ ap (λ o. obeysFrom S vs (r / 2 ^ length o) t) (sym e))
 
+-- ---- values
+
+-- where any value is declared
+held-asked : (values held : List ℕ) → (values ≡ [] → ⊥) → oneHeld values held ≡ eqb (length held) 1
+held-asked [] held f = absurd (f refl)
+held-asked (v ∷ vs) held f = refl
+
+module _ (S : Tableau) where
+  -- where there is a value place, a value is declared
+  value-declared : {i : ℕ} → i ∈ valuePlaces S → S .values ≡ [] → ⊥
+  unfolding valuePlaces elem
+  value-declared {i} m e =
+      let p = getD (S .ln) i tru in
+      subst (λ l. T (elem (num p) l)) e (and-1 (isLetter p) (elem (num p) (S .values)) (keep-out (λ j. isValue S (getD (S .ln) j tru)) (below (length (S .ln))) m .1))
+
+  one-valued : (values : List ℕ) → valuePlaces S ≡ values → (values ≡ [] → S .values ≡ []) → (t : ℕ) → hasOne values t ≡ valued S t
+  unfolding hasOne valued
+  one-valued values e none t = go values e none ∙ ap (λ l. oneHeld (S .values) (keep (inType t) l)) (sym e)
+    where
+      go : (l : List ℕ) → valuePlaces S ≡ l → (l ≡ [] → S .values ≡ []) → hasOne l t ≡ oneHeld (S .values) (keep (inType t) l)
+      go [] e none = ap (λ k. oneHeld k []) (sym (none refl))
+      go (p ∷ ps) e none =
+          ap (λ b. b || eqb (countBelow (length (p ∷ ps)) (λ i. inType t (getD (p ∷ ps) i 0))) 1) (ne-eqb (length (p ∷ ps)) 0 (omega arith))
+          ∙ ap (λ n. eqb n 1) (count-places (inType t) (p ∷ ps))
+          ∙ sym (held-asked (S .values) (keep (inType t) (p ∷ ps)) (value-declared (subst (λ l. p ∈ l) (sym e) (List·Memᴰ·head refl))))
+
 -- ---- the tableau
 
 lean-length : (ms ln : List ℕ) → length (leanForms ms ln) ≡ length ln
 unfolding leanForms
 lean-length ms ln = length-map ln (form ms)
 
-module _ {S : Tableau} {ms ln globals names others : List ℕ} (m : Matches S ms ln globals names others) (w : ℕ) (d base : List ℕ) (h : w ≤ length d) (eb : base ≡ packed w (makesAll ms ln globals) d) (top : 2 ^ length ln ≤ w * 64)
+module _ {S : Tableau} {ms ln globals names others values : List ℕ} (m : Matches S ms ln globals names others values) (w : ℕ) (d base : List ℕ) (h : w ≤ length d) (eb : base ≡ packed w (inBase ms ln globals values) d) (top : 2 ^ length ln ≤ w * 64)
     (r : ℕ) where
-  made : (t : ℕ) → t < w * 64 → member base t ≡ makesAll ms ln globals t
-  made = held (makesAll ms ln globals) d base w h eb
+  made : (t : ℕ) → t < w * 64 → member base t ≡ inBase ms ln globals values t
+  made = held (inBase ms ln globals values) d base w h eb
 
   len : length (S .ln) ≡ length ln
   len = ap length (m .lean) ∙ lean-length ms ln
@@ -105,29 +135,36 @@ module _ {S : Tableau} {ms ln globals names others : List ℕ} (m : Matches S ms
   globally : (t : ℕ) → allBelow (length globals) (λ i. trueAt ms ln (getD globals i 0) t) ≡ L.allOf (truth (S .ln) t) (S .globals)
   globally t = all-list (Tr ms ln t) (form ms) 0 globals ∙ ap₂ (λ k l. L.allOf (truth k t) l) (sym (m .lean)) (sym (m .globals-are))
 
+  -- what is asked of a start type under every naming, over the words and over the tableau
+  abbrev wordsAsk : ℕ → Bool
+  wordsAsk t = hasOne values t && allBelow (length globals) (λ i. trueAt ms ln (getD globals i 0) t)
+
+  abbrev tableauAsks : ℕ → Bool
+  tableauAsks t = valued S t && L.allOf (truth (S .ln) t) (S .globals)
+
+  asking : (t : ℕ) → wordsAsk t ≡ tableauAsks t
+  asking t = ap₂ (λ a b. a && b) (one-valued S values (m .values-are) (m .values-none) t) (globally t)
+
   obeying : (t : ℕ) → obeysBy names others r t ≡ obeys S r t
   unfolding obeys
   obeying t = obeys-from S others (m .others-are) t names r ∙ ap (λ n. obeysFrom S n r t) (sym (m .names-are))
 
   pub start-types : startList w base names others r ≡ startTypes S r
-  unfolding startList startTypes starts makesAll
+  unfolding startList startTypes starts inBase
   start-types =
       ascending-same 0 (keep (λ t. member base t && obeysBy names others r t) (below (w * 64))) (keep (starts S r) (below (2 ^ length (S .ln))))
       (ascending-keep (λ t. member base t && obeysBy names others r t) 0 (below (w * 64)) (ascending-count 0 (w * 64)))
       (ascending-keep (starts S r) 0 (below (2 ^ length (S .ln))) (ascending-count 0 (2 ^ length (S .ln))))
       there back
     where
-      G : ℕ → Bool
-      G t = allBelow (length globals) (λ i. trueAt ms ln (getD globals i 0) t)
-
       there : (t : ℕ) → t ∈ keep (λ t. member base t && obeysBy names others r t) (below (w * 64)) → t ∈ keep (starts S r) (below (2 ^ length (S .ln)))
       there t i =
           let k = keep-out (λ t. member base t && obeysBy names others r t) (below (w * 64)) i in
           let l = below-out (w * 64) (k .0) in
           let a = T-cast (made t l) (and-0 (member base t) (obeysBy names others r t) (k .1)) in
-          let b : t < 2 ^ length (S .ln) = subst (λ n. t < 2 ^ n) (sym len) (ltb-true _ _ (true-T _ (and-0 (ltb t (2 ^ length ln)) (G t) a))) in
+          let b : t < 2 ^ length (S .ln) = subst (λ n. t < 2 ^ n) (sym len) (ltb-true _ _ (true-T _ (and-0 (ltb t (2 ^ length ln)) (wordsAsk t) a))) in
           keep-in (starts S r) (below-in b)
-          (and-in (obeys S r t) (L.allOf (truth (S .ln) t) (S .globals)) (T-cast (obeying t) (and-1 (member base t) (obeysBy names others r t) (k .1))) (T-cast (globally t) (and-1 (ltb t (2 ^ length ln)) (G t) a)))
+          (and-in (obeys S r t) (tableauAsks t) (T-cast (obeying t) (and-1 (member base t) (obeysBy names others r t) (k .1))) (T-cast (asking t) (and-1 (ltb t (2 ^ length ln)) (wordsAsk t) a)))
 
       back : (t : ℕ) → t ∈ keep (starts S r) (below (2 ^ length (S .ln))) → t ∈ keep (λ t. member base t && obeysBy names others r t) (below (w * 64))
       back t i =
@@ -136,8 +173,8 @@ module _ {S : Tableau} {ms ln globals names others : List ℕ} (m : Matches S ms
           let l : t < w * 64 = omega arith in
           keep-in (λ t. member base t && obeysBy names others r t) (below-in l)
           (and-in (member base t) (obeysBy names others r t)
-          (T-cast⁻ (made t l) (and-in (ltb t (2 ^ length ln)) (G t) (T-true _ (lt-ltb t (2 ^ length ln) b)) (T-cast⁻ (globally t) (and-1 (obeys S r t) (L.allOf (truth (S .ln) t) (S .globals)) (k .1)))))
-          (T-cast⁻ (obeying t) (and-0 (obeys S r t) (L.allOf (truth (S .ln) t) (S .globals)) (k .1))))
+          (T-cast⁻ (made t l) (and-in (ltb t (2 ^ length ln)) (wordsAsk t) (T-true _ (lt-ltb t (2 ^ length ln) b)) (T-cast⁻ (asking t) (and-1 (obeys S r t) (tableauAsks t) (k .1)))))
+          (T-cast⁻ (obeying t) (and-0 (obeys S r t) (tableauAsks t) (k .1))))
 
   -- ---- the surviving types and the rounds of naming r
 
@@ -145,14 +182,14 @@ module _ {S : Tableau} {ms ln globals names others : List ℕ} (m : Matches S ms
   unfolding survivingTypes
   surviving-types =
       ap (Survivors ms ln) start-types
-      ∙ survivors-over (forms ms) (S .cl) (m .closure-has) (m .closure-in) (leanForms ms ln) (startTypes S r)
+      ∙ survivors-but (forms ms) (S .cl) (m .closure-has) (λ p i. inl (m .closure-in p i)) (leanForms ms ln) (startTypes S r)
       ∙ ap (λ l. E.survivors (S .cl) (truth l) (linkBy (S .cl) l) (startTypes S r)) (sym (m .lean))
 
   pub rounds-of : Rounds ms ln (startList w base names others r) ≡ roundsOf S r
   unfolding roundsOf
   rounds-of =
       ap (Rounds ms ln) start-types
-      ∙ rounds-over (forms ms) (S .cl) (m .closure-has) (m .closure-in) (leanForms ms ln) (startTypes S r)
+      ∙ rounds-but (forms ms) (S .cl) (m .closure-has) (λ p i. inl (m .closure-in p i)) (leanForms ms ln) (startTypes S r)
       ∙ ap (λ l. E.rounds (S .cl) (truth l) (linkBy (S .cl) l) (startTypes S r)) (sym (m .lean))
 
   -- what `table` does

@@ -89,17 +89,23 @@ list-packed w d x fam h a b e =
 
 -- ---- how many
 
+put-count : (b : Bool) (x : ℕ) (l : List ℕ) → one b + length l ≡ length (put b x l)
+put-count true x l = omega arith
+put-count false x l = omega arith
+
 pub count-keep : (P : ℕ → Bool) (a n : ℕ) → countBelow n (λ j. P (a + j)) ≡ length (keep P (countFrom a n))
 unfolding countBelow
 count-keep P a zero = refl
 count-keep P a (suc n) =
     count-front (λ j. P (a + j)) n
     ∙ ap₂ (λ x y. one x + y) (ap P (add-zero a)) (count-ext (λ j. P (a + suc j)) (λ j. P (suc a + j)) n (λ j h. ap P (add-suc a j ∙ sym (suc-add a j))) ∙ count-keep P (suc a) n)
-    ∙ go (P a) (keep P (countFrom (suc a) n))
-  where
-    go : (b : Bool) (l : List ℕ) → one b + length l ≡ length (put b a l)
-    go true l = omega arith
-    go false l = omega arith
+    ∙ put-count (P a) a (keep P (countFrom (suc a) n))
+
+-- how many places of a list pass a test
+pub count-places : (P : ℕ → Bool) (l : List ℕ) → countBelow (length l) (λ i. P (getD l i 0)) ≡ length (keep P l)
+unfolding countBelow
+count-places P [] = refl
+count-places P (x ∷ l) = count-front (λ i. P (getD (x ∷ l) i 0)) (length l) ∙ ap (λ n. one (P x) + n) (count-places P l) ∙ put-count (P x) x (keep P l)
 
 pub count-list : (w : ℕ) (ws : List ℕ) → countBelow (w * 64) (member ws) ≡ length (listOf w ws)
 unfolding listOf

@@ -1,21 +1,39 @@
--- `fill` meets its contract: the truth words and the link words are what the elimination goes by. Assumes nothing.
-use native.Mathlib.Omega.{arith}
-use Rattle.frame.proofs.Stores.{ready-by}
+-- `fill` meets its contract: what filling asks follows from the set-up. Assumes nothing.
+use mathlib.Core.Path.{sym}
+use lib.Seq.{length-take-le}
+use Rattle.frame.proofs.Stores.{fill-asks}
 use borrow.Author.Needs.{needs}
 use Rattle.frame.proofs.fill.Statement.{statement}
 use Rattle.frame.proofs.fill.Tie as tie
 
-truth-words-requires : tie.Need-truth-words-requires
-truth-words-requires c κs = search needs
+array-share-prefix-members : tie.Need-array-share-prefix-members
+array-share-prefix-members c = search needs
 
-link-words-requires : tie.Need-link-words-requires
-link-words-requires c κs =
-    let b4 = c .before .before .before .before in
-    let b12 = b4 .before .before .before .before .before .before .before .before in
-    (b12 .pre .0 .table, (b4 .truth-words .ensures, (b12 .pre .1 .2, (let w = b12 .pre .1 .0 in omega arith))))
+slice-aggregate-fill-words : tie.Need-slice-aggregate-fill-words
+slice-aggregate-fill-words c = sym (length-take-le _ _ (c .before .before .before .before .before .before .before .before .pre .0 .1 .members-within))
 
-base-words-requires : tie.Need-base-words-requires
-base-words-requires c κs = search needs
+array-share-prefix-lean : tie.Need-array-share-prefix-lean
+array-share-prefix-lean c = search needs
+
+slice-aggregate-fill-words-2 : tie.Need-slice-aggregate-fill-words-2
+slice-aggregate-fill-words-2 c = sym (length-take-le _ _ (c .before .before .before .before .before .before .before .before .before .pre .0 .1 .lean-within))
+
+array-share-prefix-everywhere : tie.Need-array-share-prefix-everywhere
+array-share-prefix-everywhere c = search needs
+
+slice-aggregate-fill-words-3 : tie.Need-slice-aggregate-fill-words-3
+slice-aggregate-fill-words-3 c = sym (length-take-le _ _ (c .before .before .before .before .before .before .before .before .before .before .pre .0 .1 .globals-within))
+
+array-share-prefix-valued : tie.Need-array-share-prefix-valued
+array-share-prefix-valued c = search needs
+
+slice-aggregate-fill-words-4 : tie.Need-slice-aggregate-fill-words-4
+slice-aggregate-fill-words-4 c = sym (length-take-le _ _ (c .before .before .before .before .before .before .before .before .before .before .before .pre .0 .1 .values-within))
+
+fill-words-requires : tie.Need-fill-words-requires
+fill-words-requires c κs =
+    let b14 = c .before .before .before .before .before .before .before .before .before .before .before .before .before .before in
+    fill-asks (b14 .pre .0 .1) _ _ _ (b14 .pre .1 .0) (b14 .pre .1 .1) (b14 .pre .1 .2)
 
 same-length : tie.Need-same-length
 same-length c = search needs
@@ -27,20 +45,21 @@ same-length-3 : tie.Need-same-length-3
 same-length-3 c = search needs
 
 returns : tie.Need-returns
-returns c =
-    let b2 = c .before .before in
-    let b7 = b2 .before .before .before .before .before in
-    let b12 = b7 .before .before .before .before .before in
-    let b20 = b12 .before .before .before .before .before .before .before .before in
-    (ready-by (b20 .pre .0) (b20 .pre .1 .0) (b12 .truth-words .ensures) (b7 .link-words .ensures), b2 .base-words .ensures)
+returns c = search needs
 
 pub fill-spec : {M : Type 1} → statement M
 fill-spec =
     tie.close
     (tie.spec
-    truth-words-requires
-    link-words-requires
-    base-words-requires
+    array-share-prefix-members
+    slice-aggregate-fill-words
+    array-share-prefix-lean
+    slice-aggregate-fill-words-2
+    array-share-prefix-everywhere
+    slice-aggregate-fill-words-3
+    array-share-prefix-valued
+    slice-aggregate-fill-words-4
+    fill-words-requires
     same-length
     same-length-2
     same-length-3

@@ -1,46 +1,43 @@
 -- `frame_of` meets its contract: what each call asks follows from the reading, and what the calls give is the frame. Assumes nothing.
 use native.Mathlib.Omega.{arith}
-use Rattle.frame.proofs.FrameLaws.{copy-asks, count-asks, frame-any, frame-is, frame-narrow, split-asks}
+use Rattle.frame.proofs.FrameLaws.{copy-asks, count-asks, frame-any, frame-few, frame-is, frame-narrow, names-sought, others-sought, values-sought}
 use borrow.Author.Needs.{needs}
 use Rattle.frame.proofs.frame_of.Statement.{statement}
 use Rattle.frame.proofs.frame_of.Tie as tie
 
 words-for-requires : tie.Need-words-for-requires
-words-for-requires c κs =
-    let b7 = c .before .before .before .before .before .before .before in
-    frame-narrow (b7 .pre)
+words-for-requires c κs = frame-narrow (c .before .before .before .before .before .before .before .before .pre)
 
 link-room-requires : tie.Need-link-room-requires
 link-room-requires c κs = search needs
 
 sub-n : tie.Need-sub-n
-sub-n c =
-    let b9 = c .before .before .before .before .before .before .before .before .before in
-    frame-any (b9 .pre)
+sub-n c = frame-any (c .before .before .before .before .before .before .before .before .before .before .pre)
 
 copy-places-requires : tie.Need-copy-places-requires
-copy-places-requires c κs =
-    let b10 = c .before .before .before .before .before .before .before .before .before .before in
-    copy-asks (b10 .pre)
+copy-places-requires c κs = copy-asks (c .before .before .before .before .before .before .before .before .before .before .before .pre)
 
-split-lean-requires : tie.Need-split-lean-requires
-split-lean-requires c κs =
-    let b15 = c .before .before .before .before .before .before .before .before .before .before .before .before .before .before .before in
-    split-asks (b15 .pre)
+kind-places-requires : tie.Need-kind-places-requires
+kind-places-requires c κs = (omega arith, names-sought (c .before .before .before .before .before .before .before .before .before .before .before .before .before .before .before .pre))
+
+kind-places-requires-2 : tie.Need-kind-places-requires-2
+kind-places-requires-2 c κs = (omega arith, others-sought (c .before .before .before .before .before .before .before .before .before .before .before .before .before .before .before .before .before .before .before .pre))
+
+kind-places-requires-3 : tie.Need-kind-places-requires-3
+kind-places-requires-3 c κs = (omega arith, values-sought (c .before .before .before .before .before .before .before .before .before .before .before .before .before .before .before .before .before .before .before .before .before .before .before .pre))
 
 count-namings-requires : tie.Need-count-namings-requires
 count-namings-requires c κs =
-    let b4 = c .before .before .before .before in
-    let b20 = b4 .before .before .before .before .before .before .before .before .before .before .before .before .before .before .before .before in
-    count-asks (b20 .pre) (b4 .split-lean .ensures)
+    let b2 = c .before .before in
+    let b6 = b2 .before .before .before .before in
+    let b10 = b6 .before .before .before .before in
+    count-asks (b10 .before .before .before .before .before .before .before .before .before .before .before .before .before .before .before .before .pre) (b10 .kind-places .ensures) (b6 .kind-places2 .ensures) (b2 .kind-places3 .ensures)
 
-mul-t15 : tie.Need-mul-t15
-mul-t15 c = search needs
+mul-t16 : tie.Need-mul-t16
+mul-t16 c = let f = frame-few (c .before .before .before .before .before .before .before .before .before .before .before .before .before .before .before .before .before .before .before .before .before .before .before .before .before .before .before .pre) in omega arith
 
-shared-slice-read-t24 : tie.Need-shared-slice-read-t24
-shared-slice-read-t24 c =
-    let b22 = c .before .before .before .before .before .before .before .before .before .before .before .before .before .before .before .before .before .before .before .before .before .before in
-    (let f = frame-any (b22 .pre) in omega arith)
+shared-slice-read-t27 : tie.Need-shared-slice-read-t27
+shared-slice-read-t27 c = let f = frame-any (c .before .before .before .before .before .before .before .before .before .before .before .before .before .before .before .before .before .before .before .before .before .before .before .before .before .before .before .before .pre) in omega arith
 
 same-length : tie.Need-same-length
 same-length c = search needs
@@ -51,15 +48,19 @@ same-length-2 c = search needs
 same-length-3 : tie.Need-same-length-3
 same-length-3 c = search needs
 
+same-length-4 : tie.Need-same-length-4
+same-length-4 c = search needs
+
 returns : tie.Need-returns
 returns c =
     let b1 = c .before in
-    let b6 = b1 .before .before .before .before .before in
-    let b11 = b6 .before .before .before .before .before in
-    let b13 = b11 .before .before in
-    let b14 = b13 .before in
-    let b22 = b14 .before .before .before .before .before .before .before .before in
-    frame-is (b22 .pre) _ (b14 .words-for .ensures) (b13 .link-room .ensures) (b11 .copy-places .ensures) (b6 .split-lean .ensures) (b1 .count-namings .ensures)
+    let b4 = b1 .before .before .before in
+    let b8 = b4 .before .before .before .before in
+    let b12 = b8 .before .before .before .before in
+    let b16 = b12 .before .before .before .before in
+    let b18 = b16 .before .before in
+    let b19 = b18 .before in
+    frame-is (b19 .before .before .before .before .before .before .before .before .before .pre) (b12 .kind-places .ensures) (b8 .kind-places2 .ensures) (b4 .kind-places3 .ensures) _ (b19 .words-for .ensures) (b18 .link-room .ensures) (b16 .copy-places .ensures) (b1 .count-namings .ensures)
 
 pub frame-of-spec : {M : Type 1} → statement M
 frame-of-spec =
@@ -69,11 +70,14 @@ frame-of-spec =
     link-room-requires
     sub-n
     copy-places-requires
-    split-lean-requires
+    kind-places-requires
+    kind-places-requires-2
+    kind-places-requires-3
     count-namings-requires
-    mul-t15
-    shared-slice-read-t24
+    mul-t16
+    shared-slice-read-t27
     same-length
     same-length-2
     same-length-3
+    same-length-4
     returns)

@@ -4,23 +4,23 @@ use borrow.Author.Needs.{needs}
 use Rattle.wordset.proofs.Filling.{Filling, begins, ends, goes}
 use Rattle.wordset.proofs.PackLaws.{packWord}
 use Rattle.wordset.proofs.AnswersLaws.{answers-word}
-use Rattle.start.specs.Starts.{makesAll}
+use Rattle.start.specs.Starts.{inBase}
 use Rattle.start.proofs.base_words.Statement.{statement}
 use Rattle.start.proofs.base_words.Tie as tie
 
 abbrev Inv-loop : tie.InvT-loop
-Inv-loop ms ln tw w globals base₀ k₀ base k = Filling (packWord (makesAll ms ln globals)) base₀ w base k
+Inv-loop ms ln tw w globals values base₀ k₀ base k = Filling (packWord (inBase ms ln globals values)) base₀ w base k
 
 abbrev μ-loop : tie.MeasureT-loop
-μ-loop ms ln tw w globals base₀ k₀ base k = w - k
+μ-loop ms ln tw w globals values base₀ k₀ base k = w - k
 
 loop-holds : tie.Need-loop-holds Inv-loop μ-loop
 loop-holds c = begins
 
 base-word-requires : tie.Need-base-word-requires Inv-loop μ-loop
 base-word-requires c κs =
-    let b7 = c .before .before .before .before .before .before .before in
-    (b7 .pre .0, ((c .loop-test .taken, b7 .pre .1 .0 .1), b7 .pre .1 .1))
+    let b8 = c .before .before .before .before .before .before .before .before in
+    (b8 .pre .0, ((c .loop-test .taken, b8 .pre .1 .0 .1), b8 .pre .1 .1))
 
 mul-base : tie.Need-mul-base Inv-loop μ-loop
 mul-base c = search needs

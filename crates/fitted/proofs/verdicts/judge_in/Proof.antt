@@ -2,94 +2,64 @@
 use mathlib.Core.Path.{refl, sym}
 use lib.ListN.{replicate}
 use lib.Seq.{length-take-le}
-use Rattle.fitted.proofs.AcceptedLaws.{globals-within, judge-asked, judged, lean-within, members-within, names-within, others-within, words-asked}
+use Rattle.fitted.proofs.AcceptedLaws.{judge-asked, judged, lean-within, members-within, names-within, others-within, words-asked}
 use borrow.Author.Needs.{needs}
 use Rattle.fitted.proofs.verdicts.judge_in.Statement.{statement}
 use Rattle.fitted.proofs.verdicts.judge_in.Tie as tie
 
-array-share-prefix-members : tie.Need-array-share-prefix-members
-array-share-prefix-members c =
-    let b7 = c .before .before .before .before .before .before .before in
-    members-within (b7 .pre .0) (b7 .pre .1 .0)
-
 slice-aggregate-fill : tie.Need-slice-aggregate-fill
-slice-aggregate-fill c =
-    let b8 = c .before .before .before .before .before .before .before .before in
-    sym (length-take-le _ _ (members-within (b8 .pre .0) (b8 .pre .1 .0)))
-
-array-share-prefix-lean : tie.Need-array-share-prefix-lean
-array-share-prefix-lean c =
-    let b8 = c .before .before .before .before .before .before .before .before in
-    lean-within (b8 .pre .0) (b8 .pre .1 .0)
+slice-aggregate-fill c = search needs
 
 slice-aggregate-fill-2 : tie.Need-slice-aggregate-fill-2
-slice-aggregate-fill-2 c =
-    let b9 = c .before .before .before .before .before .before .before .before .before in
-    sym (length-take-le _ _ (lean-within (b9 .pre .0) (b9 .pre .1 .0)))
-
-array-share-prefix-everywhere : tie.Need-array-share-prefix-everywhere
-array-share-prefix-everywhere c =
-    let b9 = c .before .before .before .before .before .before .before .before .before in
-    globals-within (b9 .pre .0) (b9 .pre .1 .0)
-
-slice-aggregate-fill-3 : tie.Need-slice-aggregate-fill-3
-slice-aggregate-fill-3 c =
-    let b10 = c .before .before .before .before .before .before .before .before .before .before in
-    sym (length-take-le _ _ (globals-within (b10 .pre .0) (b10 .pre .1 .0)))
-
-slice-aggregate-fill-4 : tie.Need-slice-aggregate-fill-4
-slice-aggregate-fill-4 c = search needs
-
-slice-aggregate-fill-5 : tie.Need-slice-aggregate-fill-5
-slice-aggregate-fill-5 c = search needs
+slice-aggregate-fill-2 c = search needs
 
 fill-requires : tie.Need-fill-requires
 fill-requires c κs =
-    let b13 = c .before .before .before .before .before .before .before .before .before .before .before .before .before in
-    words-asked (b13 .pre .0) (b13 .pre .1 .0) _ _ _ refl (b13 .pre .1 .1) refl
+    let b9 = c .before .before .before .before .before .before .before .before .before in
+    words-asked (b9 .pre .0) (b9 .pre .1 .0) _ _ _ refl (b9 .pre .1 .1) refl
 
-array-share-prefix-members-2 : tie.Need-array-share-prefix-members-2
-array-share-prefix-members-2 c =
-    let b18 = c .before .before .before .before .before .before .before .before .before .before .before .before .before .before .before .before .before .before in
-    members-within (b18 .pre .0) (b18 .pre .1 .0)
+array-share-prefix-members : tie.Need-array-share-prefix-members
+array-share-prefix-members c =
+    let b14 = c .before .before .before .before .before .before .before .before .before .before .before .before .before .before in
+    members-within (b14 .pre .0) (b14 .pre .1 .0)
 
 slice-aggregate-judge : tie.Need-slice-aggregate-judge
 slice-aggregate-judge c =
-    let b19 = c .before .before .before .before .before .before .before .before .before .before .before .before .before .before .before .before .before .before .before in
-    sym (length-take-le _ _ (members-within (b19 .pre .0) (b19 .pre .1 .0)))
+    let b15 = c .before .before .before .before .before .before .before .before .before .before .before .before .before .before .before in
+    sym (length-take-le _ _ (members-within (b15 .pre .0) (b15 .pre .1 .0)))
 
-array-share-prefix-lean-2 : tie.Need-array-share-prefix-lean-2
-array-share-prefix-lean-2 c =
-    let b19 = c .before .before .before .before .before .before .before .before .before .before .before .before .before .before .before .before .before .before .before in
-    lean-within (b19 .pre .0) (b19 .pre .1 .0)
+array-share-prefix-lean : tie.Need-array-share-prefix-lean
+array-share-prefix-lean c =
+    let b15 = c .before .before .before .before .before .before .before .before .before .before .before .before .before .before .before in
+    lean-within (b15 .pre .0) (b15 .pre .1 .0)
 
 slice-aggregate-judge-2 : tie.Need-slice-aggregate-judge-2
 slice-aggregate-judge-2 c =
-    let b20 = c .before .before .before .before .before .before .before .before .before .before .before .before .before .before .before .before .before .before .before .before in
-    sym (length-take-le _ _ (lean-within (b20 .pre .0) (b20 .pre .1 .0)))
+    let b16 = c .before .before .before .before .before .before .before .before .before .before .before .before .before .before .before .before in
+    sym (length-take-le _ _ (lean-within (b16 .pre .0) (b16 .pre .1 .0)))
 
 slice-aggregate-judge-3 : tie.Need-slice-aggregate-judge-3
 slice-aggregate-judge-3 c = search needs
 
 array-share-prefix-named : tie.Need-array-share-prefix-named
 array-share-prefix-named c =
-    let b22 = c .before .before .before .before .before .before .before .before .before .before .before .before .before .before .before .before .before .before .before .before .before .before in
-    names-within (b22 .pre .0) (b22 .pre .1 .0)
+    let b18 = c .before .before .before .before .before .before .before .before .before .before .before .before .before .before .before .before .before .before in
+    names-within (b18 .pre .0) (b18 .pre .1 .0)
 
 slice-aggregate-judge-4 : tie.Need-slice-aggregate-judge-4
 slice-aggregate-judge-4 c =
-    let b23 = c .before .before .before .before .before .before .before .before .before .before .before .before .before .before .before .before .before .before .before .before .before .before .before in
-    sym (length-take-le _ _ (names-within (b23 .pre .0) (b23 .pre .1 .0)))
+    let b19 = c .before .before .before .before .before .before .before .before .before .before .before .before .before .before .before .before .before .before .before in
+    sym (length-take-le _ _ (names-within (b19 .pre .0) (b19 .pre .1 .0)))
 
 array-share-prefix-unnamed : tie.Need-array-share-prefix-unnamed
 array-share-prefix-unnamed c =
-    let b23 = c .before .before .before .before .before .before .before .before .before .before .before .before .before .before .before .before .before .before .before .before .before .before .before in
-    others-within (b23 .pre .0) (b23 .pre .1 .0)
+    let b19 = c .before .before .before .before .before .before .before .before .before .before .before .before .before .before .before .before .before .before .before in
+    others-within (b19 .pre .0) (b19 .pre .1 .0)
 
 slice-aggregate-judge-5 : tie.Need-slice-aggregate-judge-5
 slice-aggregate-judge-5 c =
-    let b24 = c .before .before .before .before .before .before .before .before .before .before .before .before .before .before .before .before .before .before .before .before .before .before .before .before in
-    sym (length-take-le _ _ (others-within (b24 .pre .0) (b24 .pre .1 .0)))
+    let b20 = c .before .before .before .before .before .before .before .before .before .before .before .before .before .before .before .before .before .before .before .before in
+    sym (length-take-le _ _ (others-within (b20 .pre .0) (b20 .pre .1 .0)))
 
 slice-aggregate-judge-6 : tie.Need-slice-aggregate-judge-6
 slice-aggregate-judge-6 c = search needs
@@ -112,8 +82,8 @@ slice-aggregate-judge-11 c = search needs
 judge-requires : tie.Need-judge-requires
 judge-requires c κs =
     let b16 = c .before .before .before .before .before .before .before .before .before .before .before .before .before .before .before .before in
-    let b30 = b16 .before .before .before .before .before .before .before .before .before .before .before .before .before .before in
-    judge-asked (b30 .pre .0) (b30 .pre .1 .0) (replicate 4 0) (b16 .fill .ensures) refl (b16 .fill .kept .1 .1 .1 .1 .1 .1 .0) _ _ _ _ _ refl refl refl refl refl
+    let b26 = b16 .before .before .before .before .before .before .before .before .before .before in
+    judge-asked (b26 .pre .0) (b26 .pre .1 .0) (replicate 4 0) (b16 .fill .ensures) refl (b16 .fill .kept .1 .1 .1 .0) _ _ _ _ _ refl refl refl refl refl
 
 same-length : tie.Need-same-length
 same-length c = search needs
@@ -122,25 +92,19 @@ returns : tie.Need-returns
 returns c =
     let b5 = c .before .before .before .before .before in
     let b22 = b5 .before .before .before .before .before .before .before .before .before .before .before .before .before .before .before .before .before in
-    let b36 = b22 .before .before .before .before .before .before .before .before .before .before .before .before .before .before in
-    judged (b36 .pre .0) (b36 .pre .1 .0) (replicate 4 0) (b22 .fill .ensures) refl (b22 .fill .kept .1 .1 .1 .1 .1 .1 .0) (b5 .judge .ensures)
+    let b32 = b22 .before .before .before .before .before .before .before .before .before .before in
+    judged (b32 .pre .0) (b32 .pre .1 .0) (replicate 4 0) (b22 .fill .ensures) refl (b22 .fill .kept .1 .1 .1 .0) (b5 .judge .ensures)
 
 pub judge-in-spec : {M : Type 1} → statement M
 judge-in-spec =
     tie.close
     (tie.spec
-    array-share-prefix-members
     slice-aggregate-fill
-    array-share-prefix-lean
     slice-aggregate-fill-2
-    array-share-prefix-everywhere
-    slice-aggregate-fill-3
-    slice-aggregate-fill-4
-    slice-aggregate-fill-5
     fill-requires
-    array-share-prefix-members-2
+    array-share-prefix-members
     slice-aggregate-judge
-    array-share-prefix-lean-2
+    array-share-prefix-lean
     slice-aggregate-judge-2
     slice-aggregate-judge-3
     array-share-prefix-named

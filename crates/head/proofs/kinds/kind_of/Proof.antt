@@ -1,5 +1,5 @@
 -- `kinds::kind_of` meets its contract. Assumes nothing.
-use Rattle.head.proofs.KindLaws.{kind-mark, kind-name, kind-field, kind-none}
+use Rattle.head.proofs.KindLaws.{kind-mark, kind-name, kind-field, kind-value, kind-none}
 use mathlib.Core.Path.{sym, _∙_}
 use borrow.Author.Needs.{needs}
 use Rattle.head.proofs.kinds.kind_of.Statement.{statement}
@@ -44,6 +44,12 @@ returns-3 c =
     let b7 = b6 .before in
     sym (kind-field _ (sym (b7 .same-text .ensures) ∙ b6 .if1 .left) (sym (b4 .same-text2 .ensures) ∙ b3 .if2 .left) (sym (b1 .same-text3 .ensures) ∙ c .if3 .taken))
 
+slice-aggregate-same-text-4 : tie.Need-slice-aggregate-same-text-4
+slice-aggregate-same-text-4 c = search needs
+
+same-text-requires-4 : tie.Need-same-text-requires-4
+same-text-requires-4 c κs = search needs
+
 returns-4 : tie.Need-returns-4
 returns-4 c =
     let b1 = c .before in
@@ -51,7 +57,20 @@ returns-4 c =
     let b4 = b3 .before in
     let b6 = b4 .before .before in
     let b7 = b6 .before in
-    sym (kind-none _ (sym (b7 .same-text .ensures) ∙ b6 .if1 .left) (sym (b4 .same-text2 .ensures) ∙ b3 .if2 .left) (sym (b1 .same-text3 .ensures) ∙ c .if3 .left))
+    let b9 = b7 .before .before in
+    let b10 = b9 .before in
+    sym (kind-value _ (sym (b10 .same-text .ensures) ∙ b9 .if1 .left) (sym (b7 .same-text2 .ensures) ∙ b6 .if2 .left) (sym (b4 .same-text3 .ensures) ∙ b3 .if3 .left) (sym (b1 .same-text4 .ensures) ∙ c .if4 .taken))
+
+returns-5 : tie.Need-returns-5
+returns-5 c =
+    let b1 = c .before in
+    let b3 = b1 .before .before in
+    let b4 = b3 .before in
+    let b6 = b4 .before .before in
+    let b7 = b6 .before in
+    let b9 = b7 .before .before in
+    let b10 = b9 .before in
+    sym (kind-none _ (sym (b10 .same-text .ensures) ∙ b9 .if1 .left) (sym (b7 .same-text2 .ensures) ∙ b6 .if2 .left) (sym (b4 .same-text3 .ensures) ∙ b3 .if3 .left) (sym (b1 .same-text4 .ensures) ∙ c .if4 .left))
 
 pub kind-of-spec : {M : Type 1} → statement M
 kind-of-spec =
@@ -66,4 +85,7 @@ kind-of-spec =
     slice-aggregate-same-text-3
     same-text-requires-3
     returns-3
-    returns-4)
+    slice-aggregate-same-text-4
+    same-text-requires-4
+    returns-4
+    returns-5)

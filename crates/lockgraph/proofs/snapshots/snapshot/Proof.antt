@@ -134,7 +134,7 @@ fill-row-requires c κs =
     let b19 = b18 .before in
     let b20 = b19 .before in
     let b24 = b20 .before .before .before .before in
-    fill-asked (b20 .read .ensures) (b19 .number .ensures) (b18 .if1 .left) _ (b16 .end-of .ensures) _ (b12 .read2 .result) (b12 .read2 .last .1 .1 .1 .0) (b12 .read2 .ensures) (b9 .n .given .1) (b24 .args .row .now) (b12 .read2 .kept .1 .1 .1 .0) (length-unmapped (u64-field .Value) (b20 .read .result .members) 128 (b20 .read .ok .1 .1 .1 .1 .1 .1 .1 .1 .1 .0 .1 .0 .1)) (length-unmapped (usize-field .Value) (b20 .read .result .places) 5 (b20 .read .ok .1 .1 .1 .1 .1 .1 .1 .0 .1 .0 .1)) (b7 .if2 .left)
+    fill-asked (b20 .read .ensures) (b19 .number .ensures) (b18 .if1 .left) _ (b16 .end-of .ensures) _ (b12 .read2 .result) (b12 .read2 .last .1 .1 .1 .0) (b12 .read2 .ensures) (b9 .n .given .1) (b24 .args .row .now) (b12 .read2 .kept .1 .1 .1 .0) (length-unmapped (u64-field .Value) (b20 .read .result .members) 136 (b20 .read .ok .1 .1 .1 .1 .1 .1 .1 .1 .1 .0 .1 .0 .1)) (length-unmapped (usize-field .Value) (b20 .read .result .places) 5 (b20 .read .ok .1 .1 .1 .1 .1 .1 .1 .0 .1 .0 .1)) (b7 .if2 .left)
 
 returns-3 : tie.Need-returns-3
 returns-3 c =

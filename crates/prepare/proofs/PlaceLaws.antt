@@ -1,6 +1,6 @@
--- Splitting the lean's places: what one turn adds to a store, and what the stores hold at the end. Assumes nothing.
+-- Finding the lean's places of a kind: what one turn adds to the store, and what it holds at the end. Assumes nothing.
 use mathlib.Core.Path.{_≡_, refl, sym, ap, ap₂, _∙_}
-use mathlib.Core.Bool.{Bool, true, false, cond, not, _&&_}
+use mathlib.Core.Bool.{Bool, true, false, cond, _&&_}
 use mathlib.Core.List.{List, [], _∷_, _++_, append-nil}
 use Prim.Native.Nat.{ℕ, suc, _+_, _≤_, _<_}
 use native.Mathlib.Omega.{arith}
@@ -11,7 +11,7 @@ use borrow.Author.Tests.{eq-eqb, ne-eqb}
 use Rattle.ctl.proofs.ListLaws.{keep-next}
 use Rattle.ctl.specs.Lists.{keep, below}
 use Rattle.members.specs.Members.{argW, tagW}
-use Rattle.prepare.specs.Split.{nameAt, nameWord, namesIn, othersIn, SplitIs}
+use Rattle.prepare.specs.Places.{kindAt, kindWord, placesBy, Found}
 
 -- ---- a store after k turns of `most`
 
@@ -58,30 +58,24 @@ module _ {P : ℕ → Bool} {d₀ : List ℕ} {most : ℕ} where
 
 -- ---- at the end
 
-module _ {ms ln kinds names others names′ others′ : List ℕ} {k n m : ℕ} where
-  pub split-done : Parted (nameAt ms ln kinds) names (length ln) k names′ n → Parted (λ i. not (nameAt ms ln kinds i)) others (length ln) k others′ m → length ln ≤ k
-      → SplitIs ms ln kinds names others names′ others′ (record { names = n; others = m })
-  unfolding namesIn othersIn
-  split-done x y h =
+module _ (on : Bool) (q : ℕ) (ms ln kinds : List ℕ) {store store′ : List ℕ} {k n : ℕ} where
+  pub parted-done : Parted (kindAt on q ms ln kinds) store (length ln) k store′ n → length ln ≤ k → Found (placesBy on q ms ln kinds) store store′ n
+  unfolding placesBy
+  parted-done x h =
       let w = x .within in
       let e : k ≡ length ln = omega arith in
-      record {
-        names-many = x .many ∙ ap (λ i. length (keep (nameAt ms ln kinds) (below i))) e;
-        names-are = x .are ∙ ap (λ i. keep (nameAt ms ln kinds) (below i) ++ drop n names) e;
-        others-many = y .many ∙ ap (λ i. length (keep (λ j. not (nameAt ms ln kinds j)) (below i))) e;
-        others-are = y .are ∙ ap (λ i. keep (λ j. not (nameAt ms ln kinds j)) (below i) ++ drop m others) e;
-      }
+      record { many = x .many ∙ ap (λ i. length (keep (kindAt on q ms ln kinds) (below i))) e; are = x .are ∙ ap (λ i. keep (kindAt on q ms ln kinds) (below i) ++ drop n store) e }
 
 -- ---- a member's word
 
-module _ (kinds : List ℕ) (x : ℕ) where
-  pub name-other : (tagW x ≡ 2 → ⊥) → false ≡ nameWord kinds x
-  unfolding nameWord
-  name-other f = sym (ap (λ b. b && eqb (getD kinds (argW x) 0) 2) (ne-eqb (tagW x) 2 f))
+module _ (kinds : List ℕ) (q x : ℕ) where
+  pub kind-other : (tagW x ≡ 2 → ⊥) → false ≡ kindWord kinds q x
+  unfolding kindWord
+  kind-other f = sym (ap (λ b. b && eqb (getD kinds (argW x) 0) q) (ne-eqb (tagW x) 2 f))
 
-  pub name-kind : tagW x ≡ 2 → eqb (getD kinds (argW x) 0) 2 ≡ nameWord kinds x
-  unfolding nameWord
-  name-kind e = sym (ap (λ b. b && eqb (getD kinds (argW x) 0) 2) (eq-eqb (tagW x) 2 e))
+  pub kind-is : tagW x ≡ 2 → eqb (getD kinds (argW x) 0) q ≡ kindWord kinds q x
+  unfolding kindWord
+  kind-is e = sym (ap (λ b. b && eqb (getD kinds (argW x) 0) q) (eq-eqb (tagW x) 2 e))
 
-  pub name-beyond : tagW x ≡ 2 → length kinds ≤ argW x → false ≡ nameWord kinds x
-  name-beyond e h = sym (ap (λ k. eqb k 2) (List·getD-eq-default kinds 0 h)) ∙ name-kind e
+  pub kind-beyond : 0 < q → tagW x ≡ 2 → length kinds ≤ argW x → false ≡ kindWord kinds q x
+  kind-beyond l e h = sym (ap (λ k. eqb k q) (List·getD-eq-default kinds 0 h) ∙ ne-eqb 0 q (λ i. omega arith)) ∙ kind-is e

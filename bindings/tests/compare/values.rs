@@ -1,0 +1,107 @@
+//! Values: nodes of a snapshot that hold none or several of them, and which declarations of values a sheet has.
+
+use super::sheets::Sheet;
+use second_checker::generate::{self, Chance};
+use second_checker::sheet::Kind;
+use second_checker::Refusal;
+
+fn places(kinds: &[Kind], kind: Kind) -> Vec<usize> {
+    (0..kinds.len())
+        .filter(|&place| kinds[place] == kind)
+        .collect()
+}
+
+/// A snapshot in which one node holds none of the values, all of them, or one more or less than it should.
+pub fn misheld(c: &mut Chance, sheet: &Sheet) -> Vec<u8> {
+    let mut picture = generate::picture(c, &sheet.symbols, &sheet.kinds);
+    let values = places(&sheet.kinds, Kind::Value);
+    let node = c.below(picture.rows.len());
+    let entries = &mut picture.rows[node];
+    match c.below(3) {
+        0 => values.iter().for_each(|&value| entries[value] = 0),
+        1 => values.iter().for_each(|&value| entries[value] = 1),
+        _ if values.is_empty() => {}
+        _ => {
+            let value = c.pick(&values);
+            entries[value] = 1 - entries[value];
+        }
+    }
+    picture.bytes()
+}
+
+/// The declarations of values that calls are to be about, each with the outcome that the second checker has for the sheet; 0 if it accepts it.
+pub const VALUES: [(&str, Refusal); 6] = [
+    ("a value", 0),
+    ("one value alone", 0),
+    ("a value that does not occur", 0),
+    ("a value beside a name", 0),
+    ("a value, and over 8 places", 10),
+    ("a value in braces", 7),
+];
+
+/// Which of these a sheet has, by their places.
+pub fn values(sheet: &Sheet, outcome: Refusal) -> Vec<usize> {
+    let text = String::from_utf8_lossy(&sheet.bytes);
+    let lines: Vec<&str> = text.lines().collect();
+    let (Some(symbols), Some(kinds)) = (lines.first(), lines.get(1)) else {
+        return vec![];
+    };
+    let symbols: Vec<&str> = symbols.split(' ').collect();
+    let kinds: Vec<&str> = kinds.split(' ').collect();
+    let declared: Vec<&str> = symbols
+        .iter()
+        .zip(&kinds)
+        .filter(|(_, &kind)| kind == "value")
+        .map(|(&symbol, _)| symbol)
+        .collect();
+    let formulas: Vec<&str> = lines
+        .iter()
+        .skip(2)
+        .filter_map(|line| line.split_once(' '))
+        .map(|(_, formula)| formula)
+        .collect();
+    let has_run = |runs: &dyn Fn(&str) -> Vec<String>, symbol: &str| {
+        formulas
+            .iter()
+            .any(|formula| runs(formula).iter().any(|run| run == symbol))
+    };
+    let some = !declared.is_empty();
+    let has = [
+        some,
+        declared.len() == 1,
+        declared.iter().any(|symbol| !has_run(&outside, symbol)),
+        some && kinds.contains(&"name"),
+        some,
+        declared.iter().any(|symbol| has_run(&in_braces, symbol)),
+    ];
+    (0..has.len())
+        .filter(|&place| has[place] && VALUES[place].1 == outcome)
+        .collect()
+}
+
+/// The runs of lower-case letters outside braces.
+fn outside(formula: &str) -> Vec<String> {
+    let plain: Vec<&str> = formula
+        .split('{')
+        .map(|part| part.split_once('}').map_or(part, |(_, after)| after))
+        .collect();
+    letters(&plain.join(" "))
+}
+
+/// Those in braces, a capital at the beginning read as a small letter.
+fn in_braces(formula: &str) -> Vec<String> {
+    let inner: Vec<&str> = formula
+        .split('{')
+        .skip(1)
+        .filter_map(|part| part.split_once('}'))
+        .map(|(modes, _)| modes)
+        .collect();
+    letters(&inner.join(" ").to_ascii_lowercase())
+}
+
+fn letters(text: &str) -> Vec<String> {
+    text.split(|letter: char| !letter.is_ascii_lowercase())
+        .filter(|run| !run.is_empty())
+        .map(String::from)
+        .collect()
+}
