@@ -20,9 +20,12 @@
  * table, book, list:   12 store (too short)
  * snapshot:   13 snapshot   14 entry   15 twice   17 held   16 row (below, at lockgraph_snapshot; 17 is asked before 16)
  *
- * A symbol is 1 to 8 lower-case letters, and a mark, a name, a field or a value. 4: line 1 is anything but 1 to 8 different symbols with single spaces between. 5: line 2 is anything but one of
- * `mark`, `name`, `field` and `value` for each symbol, or has more than 2 names. If it has values, each node of a drawing holds exactly one of them. 6: also a run of more than 8 letters in a formula, or in braces a capital
- * that is not a mode's first letter. 7: a symbol that line 1 does not have (two that are typed together are read as one), or of the wrong kind for its place.
+ * A symbol is 1 to 8 lower-case letters, and is a mark, a name, a field or a value. Where line 2 has values, each node of a drawing has exactly one of them.
+ * 4: line 1 is anything but 1 to 8 different symbols with single spaces between.
+ * 5: line 2 is anything but one of `mark`, `name`, `field` and `value` for each symbol, or has more than 2 names.
+ * 6: also a run of more than 8 letters in a formula, or in braces a capital that is not a mode's first letter.
+ * 7: a symbol that line 1 does not have (two that are typed together are read as one), or of the wrong kind for its place.
+ * 10: over 8 basic formulas; every value is one, whether a formula has it or not.
  *
  * docs/SHEETS.md says how a sheet is written and what a verdict means; crates/ctl/specs/Tableau what types and namings are. A set of types is W words (1, 2 or 4): type j is bit j mod 64 of word j div 64. */
 #ifndef LOCKGRAPH_H

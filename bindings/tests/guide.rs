@@ -17,9 +17,10 @@ use std::fs;
 use std::path::Path;
 
 const GUIDE: &str = "docs/SHEETS.md";
-/// The guide's sheet of most snapshots, and the one with a name.
+/// The guide's sheet of most snapshots, the one with a name, and the one with values.
 const DRAWN: &str = "k f\nmark field\ngoal EX{f}k\n";
 const NAMED: &str = "v f\nname field\ngoal 1\n";
+const HELD: &str = "a b\nvalue value\ngoal 1\n";
 /// The sheet whose list is spelled out.
 const LISTED: &str =
     "capture ready waits\nmark mark field\nall ready>AX{waits}0\ngoal EX{waits}(capture&ready)\n";
@@ -67,7 +68,7 @@ fn sheets_are_answered_as_the_guide_says() {
             "line {line}: {proved}, not {answer}: {sheet}"
         );
     }
-    for number in (1..=10).chain(13..=16) {
+    for number in (1..=10).chain(13..=17) {
         let refused = format!("refused {number}");
         assert!(
             claims.iter().any(|claim| claim.answer == refused),
@@ -327,10 +328,10 @@ fn of_row(at: usize, heading: &str, row: &str) -> Vec<Claim> {
                 16
             },
         );
-        let sheet = if text.starts_with("v f\n") {
-            NAMED
-        } else {
-            DRAWN
+        let sheet = match text.lines().next() {
+            Some("v f") => NAMED,
+            Some("a b") => HELD,
+            _ => DRAWN,
         };
         return vec![Claim {
             asked: Asked::Snapshot(text, length),

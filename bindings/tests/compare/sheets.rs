@@ -127,7 +127,11 @@ pub fn changed(c: &mut Chance) -> Sheet {
             0..=2 => damaged(c),
             3..=5 => byte_changed(c),
             6 => odd(c),
-            7..=8 => large(c),
+            7 => large(c),
+            8 => {
+                let sheet = in_words(c);
+                values::more(c, sheet)
+            }
             9..=11 => damaged_words(c),
             _ => misspelt(c),
         };

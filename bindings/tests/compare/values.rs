@@ -29,6 +29,24 @@ pub fn misheld(c: &mut Chance, sheet: &Sheet) -> Vec<u8> {
     picture.bytes()
 }
 
+/// The sheet with further values on lines 1 and 2, up to 8 symbols in all: no formula has them, and the lean has.
+pub fn more(c: &mut Chance, mut sheet: Sheet) -> Sheet {
+    let text = String::from_utf8_lossy(&sheet.bytes).into_owned();
+    let mut lines: Vec<String> = text.lines().map(String::from).collect();
+    for letter in 'p'..=c.pick(&['p', 'q', 's', 'w']) {
+        let symbol = format!("{letter}value");
+        if sheet.symbols.len() == 8 || sheet.symbols.contains(&symbol) {
+            break;
+        }
+        lines[0] = format!("{} {symbol}", lines[0]);
+        lines[1].push_str(" value");
+        sheet.symbols.push(symbol);
+        sheet.kinds.push(Kind::Value);
+    }
+    sheet.bytes = format!("{}\n", lines.join("\n")).into_bytes();
+    sheet
+}
+
 /// The declarations of values that calls are to be about, each with the outcome that the second checker has for the sheet; 0 if it accepts it.
 pub const VALUES: [(&str, Refusal); 6] = [
     ("a value", 0),

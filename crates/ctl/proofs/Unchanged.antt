@@ -12,7 +12,7 @@ use Rattle.ctl.specs.Snapshot.{Snapshot, ValuesSingle}
 use Rattle.ctl.specs.Types.{inType, truth}
 use Rattle.ctl.specs.Tableau.{Tableau, tableauOf, namings, obeys, oneHeld, valued, valuePlaces, starts, startTypes}
 use Rattle.ctl.specs.Verdict.{familyOf, roundsOf, survivingTypes, goalTypes, Verdict, open′, verdictOver, verdict}
-use Rattle.ctl.specs.Judging.{familyFrom, roundsFrom, survivorsFrom, verdictFrom, JudgedFrom}
+use Rattle.ctl.specs.Judging.{formerStart, familyFrom, roundsFrom, survivorsFrom, verdictFrom, JudgedFrom}
 
 -- ---- judging goes by the start types and the number of namings alone
 
@@ -45,18 +45,14 @@ unfolding tableauOf withValues
 tableau-without spell name globals goals = refl
 
 module _ (S : Tableau) (none : S .values ≡ []) where
-  -- document 01's start types: those that obey the naming and make all globals true
-  abbrev pub startBefore : ℕ → List ℕ
-  startBefore r = keep (λ t. obeys S r t && allOf (truth (S .ln) t) (S .globals)) (below (2 ^ length (S .ln)))
-
   starts-before : (r t : ℕ) → starts S r t ≡ (obeys S r t && allOf (truth (S .ln) t) (S .globals))
   unfolding starts valued
   starts-before r t = ap (λ vs. obeys S r t && (oneHeld vs (keep (inType t) (valuePlaces S)) && allOf (truth (S .ln) t) (S .globals))) none
 
   -- start types, families, rounds, survivors and verdict are document 01's
-  pub without-values : JudgedFrom S startBefore (namings S)
-  unfolding startTypes
-  without-values = judged-from S startBefore (namings S) refl (λ r. ap (λ f. keep f (below (2 ^ length (S .ln)))) (fun-ext (starts-before r)))
+  pub without-values : JudgedFrom S (formerStart S) (namings S)
+  unfolding startTypes formerStart
+  without-values = judged-from S (formerStart S) (namings S) refl (λ r. ap (λ f. keep f (below (2 ^ length (S .ln)))) (fun-ext (starts-before r)))
 
 -- and every snapshot keeps the rule
 pub no-rule : (s : Snapshot) → ValuesSingle [] s

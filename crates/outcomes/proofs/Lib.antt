@@ -7,3 +7,4 @@ pub mod ListingLaws
 pub mod ListOrder
 pub mod DemandLaws
 pub mod Halves
+pub mod WithoutValues

@@ -1,22 +1,29 @@
--- Sheets of single letters give what they gave: their tableau, and so every table, count, round and verdict, is the one by letters. Assumes nothing.
+-- Sheets without values give what they gave: their places and tableau are document 01's, and start types, families, rounds, survivors and verdict are judged as there. With symbols of
+-- single letters besides, their tableau is the one by letters. Assumes nothing.
 use mathlib.Core.Path.{_≡_, refl, ap, _∙_, subst}
 use mathlib.Core.List.{List, [], _∷_, _++_, List·Memᴰ·head, Memᴰ·append-left, Memᴰ·append-right}
 use Prim.Native.Nat.{ℕ, _<_}
 use native.Mathlib.Omega.{arith}
 use lib.ListN.{length, getD}
 use Rattle.ctl.specs.Lists.{_∈_}
+use Rattle.ctl.specs.Lean.{withValues, lean}
+use Rattle.ctl.specs.Tableau.{tableauOf, namings}
+use Rattle.ctl.specs.Judging.{formerStart, JudgedFrom}
 use Rattle.ctl.specs.Demand3.{sheetTableau}
+use Rattle.ctl.proofs.Unchanged.{without-values}
 use Rattle.ctl.specs.Former.{formerTableau}
 use Rattle.ctl.proofs.FormerLaws.{tableau-former}
 use Rattle.layout.specs.Text.{split as words}
 use Rattle.layout.specs.Layout.{lineOf}
-use Rattle.head.specs.Head.{space, spellings}
-use Rattle.head.specs.Former.{NoValue}
+use Rattle.head.specs.Head.{space, spellings, kinds}
+use Rattle.head.specs.Former.{NoValue, formerKinds}
+use Rattle.head.proofs.FormerLaws.{kinds-former}
 use Rattle.head.proofs.Spellings.{sheet-spellings}
 use Rattle.sheet.specs.Refusal.{readRefusal}
 use Rattle.sheet.specs.Reading.{formulas, globalsOf, goalOf, isName, spellOf}
 use Rattle.sheet.proofs.DeclaredLaws.{formulas-over}
 use Rattle.sheet.proofs.FormerLaws.{no-values}
+use Rattle.reader.specs.Reader.{members, places}
 use Rattle.prepare.specs.Prepared.{tableauIn}
 use Rattle.prepare.proofs.Bridge.{globals-goal, formulas-some}
 
@@ -33,12 +40,36 @@ one-letter [] e = absurd (omega arith)
 one-letter (b ∷ []) e = refl
 one-letter (b ∷ (c ∷ w)) e = absurd (omega arith)
 
+-- line 2 has no word `value`
+abbrev pub WithoutValues : List ℕ → Type 0
+WithoutValues s = NoValue (words space (lineOf s 1))
+
+module _ (s : List ℕ) (none : WithoutValues s) where
+  pub kinds-before : kinds s ≡ formerKinds (lineOf s 1)
+  kinds-before = kinds-former (lineOf s 1) none
+
+  pub places-before : places s ≡ lean (spellOf s) (members s)
+  unfolding withValues
+  places-before = ap (λ vs. lean (spellOf s) (withValues vs (members s))) (no-values s none)
+
+  pub tableau-before : tableauIn s ≡ sheetTableau (spellOf s) (isName s) [] (globalsOf (formulas s)) (goalOf (formulas s))
+  tableau-before = ap (λ vs. sheetTableau (spellOf s) (isName s) vs (globalsOf (formulas s)) (goalOf (formulas s))) (no-values s none)
+
+  values-before : tableauIn s .values ≡ []
+  unfolding sheetTableau tableauOf
+  values-before = no-values s none
+
+  -- its start types are those that obey the naming and make all globals true, and everything else comes from these
+  pub judged-before : JudgedFrom (tableauIn s) (formerStart (tableauIn s)) (namings (tableauIn s))
+  judged-before = without-values (tableauIn s) values-before
+
+-- ---- with symbols of single letters
+
 module _ (s : List ℕ) (z : readRefusal s ≡ 0) where
   split : globalsOf (formulas s) ++ (goalOf (formulas s) ∷ []) ≡ formulas s
   split = globals-goal (formulas s) (formulas-some s z)
 
-  -- and without values
-  pub tableau-single : Single s → NoValue (words space (lineOf s 1)) → tableauIn s ≡ formerTableau (letterOf s) (isName s) (globalsOf (formulas s)) (goalOf (formulas s))
-  tableau-single one none = ap (λ vs. sheetTableau (spellOf s) (isName s) vs (globalsOf (formulas s)) (goalOf (formulas s))) (no-values s none) ∙ tableau-former (spellOf s) (letterOf s) (length (spellings s)) (sheet-spellings s .few) (λ k h. one-letter (spellOf s k) (one k h)) (isName s) (globalsOf (formulas s)) (goalOf (formulas s))
+  pub tableau-single : Single s → WithoutValues s → tableauIn s ≡ formerTableau (letterOf s) (isName s) (globalsOf (formulas s)) (goalOf (formulas s))
+  tableau-single one none = tableau-before s none ∙ tableau-former (spellOf s) (letterOf s) (length (spellings s)) (sheet-spellings s .few) (λ k h. one-letter (spellOf s k) (one k h)) (isName s) (globalsOf (formulas s)) (goalOf (formulas s))
       (λ p m. formulas-over s z p (subst (λ l. p ∈ l) split (Memᴰ·append-left (goalOf (formulas s) ∷ []) m)))
       (formulas-over s z (goalOf (formulas s)) (subst (λ l. goalOf (formulas s) ∈ l) split (Memᴰ·append-right (globalsOf (formulas s)) (List·Memᴰ·head refl))))

@@ -1,3 +1,4 @@
 pub mod EntryLaws
 pub mod CountLaws
 pub mod AnsweredLaws
+pub mod FormerLaws
