@@ -20,7 +20,8 @@ use Rattle.prepare.specs.Prepared.{kindsOf, leanOf, tableOf, tableauIn}
 use Rattle.prepare.specs.Places.{placesBy, Sought, Found}
 use Rattle.prepare.specs.Width.{WordsFor}
 use Rattle.prepare.proofs.Bridge.{ex-places, formulas-some, global-inside, globals-map, goal, goal-inside, lean-length, leans, table, table-length, tableau-lean}
-use Rattle.prepare.proofs.PlaceBridge.{names-are, others-are, values-are, held, found-matches, sought}
+use Rattle.prepare.proofs.PlaceLaws.{held}
+use Rattle.prepare.proofs.PlaceBridge.{names-are, others-are, values-are, found-matches, sought}
 use Rattle.prepare.proofs.NameCount.{name-below, names-two, other-below, others-few, value-below, values-few}
 use Rattle.judge.specs.Judged.{Places}
 use Rattle.frame.specs.Framed.{Framed, FramedAs, Frames, Given, Sound}
@@ -125,13 +126,13 @@ module _ (s : List ℕ) (r : Reading) (x : Says s r) (z : readRefusal s ≡ 0) w
 
     -- what holds of the tableau's places holds of those that were found
     names-held : take k names′ ≡ namePlaces S
-    names-held = held s r x (y .names-found) ∙ names-are s r x z
+    names-held = held (y .names-found) ∙ names-are s r x z
 
     others-held : take m others′ ≡ otherPlaces S
-    others-held = held s r x (y .others-found) ∙ others-are s r x z
+    others-held = held (y .others-found) ∙ others-are s r x z
 
     values-held : take v values′ ≡ valuePlaces S
-    values-held = held s r x (y .values-found) ∙ values-are s r x z
+    values-held = held (y .values-found) ∙ values-are s r x z
 
     tableau-places : Places (namePlaces S) (otherPlaces S)
     tableau-places =
@@ -166,7 +167,7 @@ module _ (s : List ℕ) (r : Reading) (x : Says s r) (z : readRefusal s ≡ 0) w
       framed-read : r .formulas ≤ 5 → Framed S (positive (goalOf (formulas s))) ms ln globals (take k names′) (take m others′) (take v values′) (record { words = w; links = l; globals = length ps - 1; names = k; others = m; values = v; goal = getD ps (length ps - 1) 0; namings = n })
       framed-read few = record {
         sound = read-sound;
-        matches = found-matches s r x z (held s r x (y .names-found)) (held s r x (y .others-found)) (held s r x (y .values-found)) globals (before-map many globals eg);
+        matches = found-matches s r x z (held (y .names-found)) (held (y .others-found)) (held (y .values-found)) globals (before-map many globals eg);
         enough = wide .enough;
         few-words = (wide .some, wide .few);
         no-more = wide .tight;

@@ -14,7 +14,7 @@ use Rattle.ctl.proofs.ListLaws.{kept-below}
 use Rattle.ctl.proofs.Unchanged.{no-rule}
 use Rattle.layout.specs.Layout.{lineOf}
 use Rattle.head.specs.Head.{kinds}
-use Rattle.sheet.specs.Reading.{formulas, globalsOf, isName, valuesIn}
+use Rattle.sheet.specs.Reading.{formulas, globalsOf, isName}
 use Rattle.sheet.proofs.FormerLaws.{no-values}
 use Rattle.snapshot.specs.Former.{formerRead}
 use Rattle.snapshot.proofs.FormerLaws.{read-former}

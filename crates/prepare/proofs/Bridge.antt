@@ -21,6 +21,7 @@ use Rattle.ctl.specs.Lean.{isLetter, isNext, withValues, lean}
 use Rattle.ctl.specs.Tableau.{Tableau, tableauOf, namePlaces, otherPlaces, valuePlaces}
 use Rattle.ctl.specs.Demand3.{sheetTableau}
 use Rattle.ctl.proofs.BoolLaws.{and-make, or-1, T-true}
+use Rattle.ctl.proofs.ListLaws.{getD-in}
 use Rattle.ctl.proofs.LeanOrder.{lean-members, with-in, with-out}
 use Rattle.ctl.proofs.ValueLaws.{places-none}
 use Rattle.sheet.specs.Refusal.{readRefusal}
@@ -39,11 +40,6 @@ use Rattle.prepare.proofs.NameCount.{proper}
 
 -- ---- lists by their places
 
-form-in : (l : List Form) (i : ℕ) → i < length l → getD l i tru ∈ l
-form-in [] i h = absurd (omega arith)
-form-in (p ∷ l) zero h = List·Memᴰ·head refl
-form-in (p ∷ l) (suc i) h = List·Memᴰ·tail (form-in l i (omega arith))
-
 form-place : (l : List Form) {p : Form} → p ∈ l → (i : ℕ) × (i < length l) × (getD l i tru ≡ p)
 form-place l (List·Memᴰ·head {xs = r} e) = (0, omega arith, sym e)
 form-place l (List·Memᴰ·tail {xs = r} m) = let h = form-place r m in (suc (h .0), (let k = h .1 in omega arith), h .2)
@@ -51,8 +47,8 @@ form-place l (List·Memᴰ·tail {xs = r} m) = let h = form-place r m in (suc (h
 unique-at : (l : List Form) → Unique l → (i j : ℕ) → i < length l → j < length l → getD l i tru ≡ getD l j tru → i ≡ j
 unique-at [] u i j h k e = absurd (omega arith)
 unique-at (p ∷ l) u zero zero h k e = refl
-unique-at (p ∷ l) (more f u) zero (suc j) h k e = absurd (f (subst (λ q. q ∈ l) (sym e) (form-in l j (omega arith))))
-unique-at (p ∷ l) (more f u) (suc i) zero h k e = absurd (f (subst (λ q. q ∈ l) e (form-in l i (omega arith))))
+unique-at (p ∷ l) (more f u) zero (suc j) h k e = absurd (f (subst (λ q. q ∈ l) (sym e) (getD-in tru l j (omega arith))))
+unique-at (p ∷ l) (more f u) (suc i) zero h k e = absurd (f (subst (λ q. q ∈ l) e (getD-in tru l i (omega arith))))
 unique-at (p ∷ l) (more f u) (suc i) (suc j) h k e = ap suc (unique-at l u i j (omega arith) (omega arith) e)
 
 map-at : (f : ℕ → Form) (l : List ℕ) (k : ℕ) → k < length l → getD (map f l) k tru ≡ f (getD l k 0)
@@ -178,7 +174,7 @@ module _ (s : List ℕ) (r : Reading) (x : Says s r) where
           let e = List·getD-eq-default (forms ms) tru {n = getD ln k 0} (let n = forms-length ms in omega arith) in
           let w = lean-length in
           let v = x .lean-many in
-          lean-not-tru (spellOf s) (R.tabled s) (subst (λ p. p ∈ R.places s) (sym (lean-form k h) ∙ e) (form-in (R.places s) k (omega arith)))
+          lean-not-tru (spellOf s) (R.tabled s) (subst (λ p. p ∈ R.places s) (sym (lean-form k h) ∙ e) (getD-in tru (R.places s) k (omega arith)))
 
   pub leans : r .width ≤ 60 → Leans ms ln
   leans h = record { short = (let n = lean-length in omega arith); inside = lean-inside }
@@ -189,7 +185,7 @@ module _ (s : List ℕ) (r : Reading) (x : Says s r) where
   ex-places i h g a =
       let w = member-word (x .tabled .members) i h in
       let n = ex-next (form ms i) (w .0 ∙ g) (ap single (w .1) ∙ a) in
-      let c : form ms i ∈ R.tabled s = x .tabled .only (form ms i) (form-in (forms ms) i (let e = forms-length ms in omega arith)) in
+      let c : form ms i ∈ R.tabled s = x .tabled .only (form ms i) (getD-in tru (forms ms) i (let e = forms-length ms in omega arith)) in
       let p = form-place (R.places s) (lean-members (spellOf s) (R.tabled s) (form ms i) .1 (c, or-1 (isLetter (form ms i)) (isNext (form ms i)) n)) in
       let k : p .0 < length ln = (let b = p .1 in let e = lean-length in let v = x .lean-many in omega arith) in
       (p .0, k, table .distinct (getD ln (p .0) 0) i (lean-inside (p .0) k) h (lean-form (p .0) k ∙ p .2))

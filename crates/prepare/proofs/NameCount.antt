@@ -9,12 +9,13 @@ use lib.Dec.{T, eqb, ltb, eqb→eq}
 use lib.ListN.{length, getD, length-map, List·getD-eq-default}
 use borrow.Author.Tests.{ltb-true}
 use Rattle.ctl.specs.Lists.{_∈_, below, countFrom, keep, put}
-use Rattle.ctl.specs.Formula.{Form, tru, fls, lit, nlit, and, or, ex, ax, eu, au, er, ar}
+use Rattle.ctl.specs.Formula.{Form, tru, lit}
 use Rattle.ctl.specs.Equality.{tag, num}
 use Rattle.ctl.specs.Tableau.{Tableau, isName, isValue, namePlaces, otherPlaces, valuePlaces, tableauOf}
 use Rattle.ctl.specs.Positive.{positive}
 use Rattle.ctl.specs.Demand3.{sheetTableau}
 use Rattle.ctl.proofs.BoolLaws.{and-0, and-1, and-both}
+use Rattle.ctl.proofs.FormulaLaws.{is-lit}
 use Rattle.ctl.proofs.ListLaws.{below-in, keep-in, keep-length, keep-out, kept-below, length-count, map-in}
 use Rattle.ctl.proofs.SortLaws.{keep-unique, unique-length}
 use Rattle.ctl.proofs.TableauLaws.{Proper, tableau-proper}
@@ -86,20 +87,6 @@ count-keep (k ∷ ks) = ap (λ m. cond (eqb k 2) (suc m) m) (count-keep ks) ∙ 
 
 -- ---- the names of a lean
 
-is-lit : (p : Form) → tag p ≡ 2 → p ≡ lit (num p)
-is-lit tru e = absurd (omega arith)
-is-lit fls e = absurd (omega arith)
-is-lit (lit k) e = refl
-is-lit (nlit k) e = absurd (omega arith)
-is-lit (and p q) e = absurd (omega arith)
-is-lit (or p q) e = absurd (omega arith)
-is-lit (ex A p) e = absurd (omega arith)
-is-lit (ax A p) e = absurd (omega arith)
-is-lit (eu A p q) e = absurd (omega arith)
-is-lit (au A p q) e = absurd (omega arith)
-is-lit (er A p q) e = absurd (omega arith)
-is-lit (ar A p q) e = absurd (omega arith)
-
 -- a symbol of a kind is among the kinds
 pub kind-within : (ks : List ℕ) (q : ℕ) → 0 < q → (k : ℕ) → T (eqb (getD ks k 0) q) → k < length ks
 kind-within ks q l k t = elim (decLe (length ks) k) [ yes h ↦ absurd (let e = eqb→eq 0 q (subst (λ i. T (eqb i q)) (List·getD-eq-default ks 0 h) t) in omega arith) | no h ↦ omega arith ]
@@ -116,7 +103,7 @@ module _ (s : List ℕ) where
   name-in p t =
       let a = and-0 (eqb (tag p) 2) (eqb (getD (kinds s) (num p) 0) 2) t in
       let b = and-1 (eqb (tag p) 2) (eqb (getD (kinds s) (num p) 0) 2) t in
-      subst (λ q. q ∈ map lit symbols) (sym (is-lit p (eqb→eq (tag p) 2 a))) (map-in lit (keep-in (λ k. eqb (getD (kinds s) k 0) 2) (below-in (kind-within (kinds s) 2 (omega arith) (num p) b)) b))
+      subst (λ q. q ∈ map lit symbols) (sym (is-lit p a)) (map-in lit (keep-in (λ k. eqb (getD (kinds s) k 0) 2) (below-in (kind-within (kinds s) 2 (omega arith) (num p) b)) b))
 
   pub proper : Proper S
   unfolding sheetTableau

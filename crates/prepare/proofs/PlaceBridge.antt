@@ -1,12 +1,11 @@
 -- The lean of a sheet that was read: the places of names, of others and of values that `kind_places` finds are the tableau's. Assumes nothing.
-use mathlib.Core.Path.{_≡_, refl, sym, ap, ap₂, _∙_}
+use mathlib.Core.Path.{_≡_, refl, sym, ap, ap₂, _∙_, subst}
 use mathlib.Core.Bool.{Bool, true, false, cond, not, _&&_}
-use mathlib.Core.List.{List, [], map}
+use mathlib.Core.List.{List, map}
 use Prim.Native.Nat.{ℕ, _≤_, _<_}
 use native.Mathlib.Omega.{arith}
 use lib.Dec.{eqb}
-use lib.ListN.{length, getD, take, drop}
-use lib.Seq.{take-at}
+use lib.ListN.{length, getD}
 use Rattle.ctl.specs.Lists.{below, elem, keep}
 use Rattle.ctl.specs.Formula.{Form, tru}
 use Rattle.ctl.specs.Equality.{tag, num}
@@ -16,7 +15,6 @@ use Rattle.ctl.specs.Tableau.{Tableau, isName, isValue, namePlaces, otherPlaces
 use Rattle.ctl.specs.Demand3.{sheetTableau}
 use Rattle.ctl.proofs.BoolLaws.{both-ways}
 use Rattle.ctl.proofs.ListLaws.{below-out, elem-in, elem-out, keep-same, kept-below}
-use Rattle.ctl.proofs.ValueLaws.{places-none}
 use Rattle.head.specs.Head.{kinds}
 use Rattle.sheet.specs.Refusal.{readRefusal}
 use Rattle.sheet.specs.Reading.{formulas, globalsOf, valuesIn}
@@ -25,9 +23,9 @@ use Rattle.tableau.specs.Matches.{Matches}
 use Rattle.reader.specs.declared.Reading.{Reading}
 use Rattle.reader.specs.Reader.{Says}
 use Rattle.prepare.specs.Prepared.{kindsOf, leanOf, tableOf, tableauIn}
-use Rattle.prepare.specs.Places.{kindAt, kindWord, placesBy, Sought, Found}
+use Rattle.prepare.specs.Places.{kindAt, kindWord, placesBy, Sought}
 use Rattle.prepare.proofs.Bridge.{lean-form, lean-inside, lean-length, matches, member-word, tableau-lean}
-use Rattle.prepare.proofs.NameCount.{kind-within, proper}
+use Rattle.prepare.proofs.NameCount.{kind-within}
 
 module _ (s : List ℕ) (r : Reading) (x : Says s r) where
   abbrev ms : List ℕ
@@ -93,23 +91,10 @@ module _ (s : List ℕ) (r : Reading) (x : Says s r) where
     unfolding valuePlaces
     values-are = places-are true 4 (isValue S) value-form
 
-    -- where no place is a value's, no value is declared
-    values-none : valuePlaces S ≡ [] → S .values ≡ []
-    values-none = places-none S (proper s)
-    -- ---- what a store holds afterwards
-
-  pub held : {places store store′ : List ℕ} {n : ℕ} → Found places store store′ n → take n store′ ≡ places
-  held {places} {store} {store′} {n} y = ap (take n) (y .are) ∙ take-at places (drop n store) n (sym (y .many))
-
-  module _ (z : readRefusal s ≡ 0) {names others values : List ℕ} (a : names ≡ placesBy true 2 ms ln ks) (b : others ≡ placesBy false 2 ms ln ks) (c : values ≡ placesBy true 4 ms ln ks) where
-    pub found-matches : (globals : List ℕ) → map (form ms) globals ≡ map positive (globalsOf (formulas s)) → Matches S ms ln globals names others values
-    found-matches globals e = let m = matches s r x z globals e in record {
-      closure-in = m .closure-in;
-      closure-has = m .closure-has;
-      lean = m .lean;
-      globals-are = m .globals-are;
-      names-are = sym (a ∙ names-are z);
-      others-are = sym (b ∙ others-are z);
-      values-are = sym (c ∙ values-are z);
-      values-none = λ n. values-none z (sym (c ∙ values-are z) ∙ n);
-    }
+    -- lists of these places, with the sheet's globals, match the tableau
+    pub found-matches : {names others values : List ℕ} → names ≡ placesBy true 2 ms ln ks → others ≡ placesBy false 2 ms ln ks → values ≡ placesBy true 4 ms ln ks → (globals : List ℕ)
+        → map (form ms) globals ≡ map positive (globalsOf (formulas s)) → Matches S ms ln globals names others values
+    found-matches {names} {others} {values} a b c globals e =
+        subst (λ l. Matches S ms ln globals l others values) (sym (a ∙ names-are))
+        (subst (λ l. Matches S ms ln globals (namePlaces S) l values) (sym (b ∙ others-are))
+        (subst (λ l. Matches S ms ln globals (namePlaces S) (otherPlaces S) l) (sym (c ∙ values-are)) (matches s r x z globals e)))

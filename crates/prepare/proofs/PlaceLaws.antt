@@ -4,8 +4,8 @@ use mathlib.Core.Bool.{Bool, true, false, cond, _&&_}
 use mathlib.Core.List.{List, [], _∷_, _++_, append-nil}
 use Prim.Native.Nat.{ℕ, suc, _+_, _≤_, _<_}
 use native.Mathlib.Omega.{arith}
-use lib.ListN.{length, getD, set, drop, length-append, length-set, List·getD-eq-default}
-use lib.Seq.{append-snoc, drop-cons, set-at}
+use lib.ListN.{length, getD, set, take, drop, length-append, length-set, List·getD-eq-default}
+use lib.Seq.{append-snoc, drop-cons, set-at, take-at}
 use lib.Dec.{eqb}
 use borrow.Author.Tests.{eq-eqb, ne-eqb}
 use Rattle.ctl.proofs.ListLaws.{keep-next}
@@ -65,6 +65,9 @@ module _ (on : Bool) (q : ℕ) (ms ln kinds : List ℕ) {store store′ : List �
       let w = x .within in
       let e : k ≡ length ln = omega arith in
       record { many = x .many ∙ ap (λ i. length (keep (kindAt on q ms ln kinds) (below i))) e; are = x .are ∙ ap (λ i. keep (kindAt on q ms ln kinds) (below i) ++ drop n store) e }
+
+pub held : {places store store′ : List ℕ} {n : ℕ} → Found places store store′ n → take n store′ ≡ places
+held {places} {store} {store′} {n} y = ap (take n) (y .are) ∙ take-at places (drop n store) n (sym (y .many))
 
 -- ---- a member's word
 

@@ -1,7 +1,7 @@
 // What the tableau needs besides the reader's answer: which of the lean's places are names, values and others, and how many words hold its types.
 ghost use mathlib.Core.Path.{_≡_};
 ghost use mathlib.Core.Bool.{cond, not};
-ghost use Prim.Native.Nat.{ℕ, _+_, _≤_, _<_};
+ghost use Prim.Native.Nat.{_+_, _≤_, _<_};
 ghost use lib.ListN.{length, set};
 ghost use Rattle.prepare.specs.Places.{kindWord, placesBy, Sought, Found};
 ghost use Rattle.prepare.specs.Width.{WordsFor};

@@ -1,8 +1,7 @@
 // Reading a sheet within given limits: from its bytes to symbols, kinds, formulas, closure and lean, or to one refusal.
 ghost use mathlib.Core.Path.{_≡_};
-ghost use mathlib.Core.Bool.{true};
-ghost use Prim.Native.Nat.{ℕ, _+_, _-_, _≤_, _<_};
-ghost use lib.ListN.{length, getD};
+ghost use Prim.Native.Nat.{_-_, _≤_, _<_};
+ghost use lib.ListN.{length};
 ghost use Rattle.reader.specs.Reader.{refusalBy, numberOf, blank, RootsAre, ReadIs};
 use closure::Closed;
 use lean::Gathered;

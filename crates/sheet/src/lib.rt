@@ -1,11 +1,10 @@
 // The sheet: its formulas, and the refusals 1 to 8.
 ghost use mathlib.Core.Path.{_≡_};
-ghost use Prim.Native.Nat.{ℕ, _+_, _-_, _≤_, _<_};
-ghost use lib.ListN.{length, getD, take, drop};
-ghost use mathlib.Core.List.{[], _∷_, _++_};
+ghost use Prim.Native.Nat.{_+_, _-_, _≤_, _<_};
+ghost use lib.ListN.{length};
 ghost use Rattle.layout.specs.Layout.{linesFrom, textsOf, layoutRight};
 ghost use mathlib.Core.Bool.{true};
-ghost use Rattle.sheet.specs.Sheet.{foundRefusal, OneRead, FormulasRead, SheetRead, sheetRefusal, goalUnder, goalStart};
+ghost use Rattle.sheet.specs.Sheet.{foundRefusal, OneRead, FormulasRead, SheetRead, goalUnder, goalStart};
 use syntax::Parse;
 
 // A formula that was read: how many nodes the table then holds, and its refusal 6, 7 or 8, or 9 for none.

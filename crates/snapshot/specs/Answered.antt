@@ -56,8 +56,8 @@ module _ (kinds : List ℕ) (lines : List (List ℕ)) where
     pub is-node : node < length lines
     pub wrong : NoneOrSeveral node
 
--- the store holds the snapshot of n lines whose text s is: each entry is within its limit, each name is on at most one node, and each node holds exactly one of the values, if any is
--- declared
+-- the store holds the snapshot of n lines whose text s is: each entry is within its limit, each name is on at most one node, and where a value is declared each node holds exactly
+-- one of the values
 pub record Held (line kinds s out : List ℕ) (n : ℕ) : Type 0 where
   pub lines : List (List ℕ)
   pub text : Text line (length kinds) s lines
