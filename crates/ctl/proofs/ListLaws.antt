@@ -1,7 +1,7 @@
 -- Lists searched, kept and counted by a test, and the numbers below a bound. Assumes nothing.
 use mathlib.Core.Path.{_≡_, refl, sym, ap, ap₂, _∙_, subst}
 use mathlib.Core.Logic.{_⊎_, inl, inr, _↔_}
-use mathlib.Core.Bool.{Bool, true, false, _&&_}
+use mathlib.Core.Bool.{Bool, true, false, cond, _&&_}
 use mathlib.Core.List.{List, [], _∷_, _++_, map, List·Memᴰ·head, List·Memᴰ·tail, List·Memᴰ·cases-cons, List·Memᴰ·not-nil, List·Memᴰ·eq-of-singleton, Memᴰ·cast}
 use Prim.Native.Nat.{ℕ, zero, suc, _+_, _≤_, _<_}
 use native.Mathlib.Omega.{arith}
@@ -188,6 +188,27 @@ getD-below f d n k h = getD-count f d 0 n k h ∙ ap f (omega arith)
 pub length-count : (a n : ℕ) → length (countFrom a n) ≡ n
 length-count a zero = refl
 length-count a (suc n) = ap suc (length-count (suc a) n)
+
+-- no more of them pass a test than there are
+pub kept-few : (P : ℕ → Bool) (n : ℕ) → length (keep P (below n)) ≤ n
+kept-few P n = subst (λ m. length (keep P (below n)) ≤ m) (length-count 0 n) (keep-length P (below n))
+
+-- ---- as many places pass a test as elements do
+
+pub length-put : {A : Type 0} (b : Bool) (x : A) (l : List A) → length (put b x l) ≡ cond b (suc (length l)) (length l)
+length-put true x l = refl
+length-put false x l = refl
+
+keep-shift : (q : ℕ → Bool) (a n : ℕ) → length (keep q (countFrom (suc a) n)) ≡ length (keep (λ i. q (suc i)) (countFrom a n))
+keep-shift q a zero = refl
+keep-shift q a (suc n) = length-put (q (suc a)) (suc a) (keep q (countFrom (suc (suc a)) n)) ∙ ap (λ m. cond (q (suc a)) (suc m) m) (keep-shift q (suc a) n) ∙ sym (length-put (q (suc a)) a (keep (λ i. q (suc i)) (countFrom (suc a) n)))
+
+pub keep-places : {A : Type 0} (P : A → Bool) (d : A) (l : List A) → length (keep (λ i. P (getD l i d)) (below (length l))) ≡ length (keep P l)
+keep-places P d [] = refl
+keep-places P d (x ∷ l) =
+    length-put (P x) 0 (keep (λ i. P (getD (x ∷ l) i d)) (countFrom 1 (length l)))
+    ∙ ap (λ m. cond (P x) (suc m) m) (keep-shift (λ i. P (getD (x ∷ l) i d)) 0 (length l) ∙ keep-places P d l)
+    ∙ sym (length-put (P x) x (keep P l))
 
 -- ---- some, each number below n
 

@@ -42,9 +42,7 @@ module _ (S : Tableau) (proper : Proper S) where
 
   -- where no place is a value's, no value is declared
   pub places-none : valuePlaces S ≡ [] → values ≡ []
-  unfolding valuePlaces
-  places-none e =
-      none-in values (λ k m. List·Memᴰ·not-nil (subst (λ l. indexOf (lit k) ln ∈ l) e (value-place k m)))
+  places-none e = none-in values (λ k m. List·Memᴰ·not-nil (subst (λ l. indexOf (lit k) ln ∈ l) e (value-place k m)))
 
   module _ (t : ℕ) where
     -- the value places that the type has

@@ -7,8 +7,7 @@ use native.Mathlib.Omega.{arith}
 use lib.Dec.{eqb}
 use lib.ListN.{length, getD, length-map, take}
 use lib.Seq.{length-take-le}
-use Rattle.ctl.specs.Lists.{below}
-use Rattle.ctl.proofs.ListLaws.{keep-length, length-count}
+use Rattle.ctl.proofs.ListLaws.{kept-few}
 use Rattle.ctl.proofs.LeanOrder.{with-length}
 use Rattle.wordset.proofs.BelowLaws.{lt-or-le}
 use Rattle.head.specs.Head.{kinds}
@@ -82,10 +81,9 @@ module _ {s : List ℕ} {r : Reading} (x : ReadIs 64 8 s r) {k : ℕ} (e : k ≡
         let a = members-few in
         let b = says .tabled .count in
         let c = with-length (members s) (valuesIn s) in
-        let d = keep-length (λ k. eqb (getD (kinds s) k 0) 4) (below (length (kinds s))) in
-        let e = length-count 0 (length (kinds s)) in
-        let f = right-kinds s right in
-        let g = sheet-spellings s .few in
+        let d = kept-few (λ k. eqb (getD (kinds s) k 0) 4) (length (kinds s)) in
+        let e = right-kinds s right in
+        let f = sheet-spellings s .few in
         omega arith
 
     pub frame-asked : {globals names others values : List ℕ} → length (r .places) ≡ 5 → length globals ≡ 8 → length names ≡ 8 → length others ≡ 8 → length values ≡ 8

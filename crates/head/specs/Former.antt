@@ -1,4 +1,4 @@
--- The kinds of document 01: what request §3 is compared with. Nothing but proofs/FormerLaws cites it. Assumes nothing.
+-- The kinds of document 01: what request §3 is compared with. Only theorems that compare with it cite it. Assumes nothing.
 use mathlib.Core.Path.{_≡_}
 use mathlib.Core.Bool.{cond, false}
 use mathlib.Core.List.{List, [], _∷_, _++_, List·Memᴰ}

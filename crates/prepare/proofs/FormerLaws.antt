@@ -1,16 +1,19 @@
 -- Sheets without values give what they gave: their places and tableau are document 01's, and start types, families, rounds, survivors and verdict are judged as there. With symbols of
 -- single letters besides, their tableau is the one by letters. Assumes nothing.
 use mathlib.Core.Path.{_≡_, refl, ap, _∙_, subst}
-use mathlib.Core.List.{List, [], _∷_, _++_, List·Memᴰ·head, Memᴰ·append-left, Memᴰ·append-right}
+use mathlib.Core.List.{List, [], _∷_, _++_, map, List·Memᴰ·head, Memᴰ·append-left, Memᴰ·append-right}
 use Prim.Native.Nat.{ℕ, _<_}
 use native.Mathlib.Omega.{arith}
 use lib.ListN.{length, getD}
 use Rattle.ctl.specs.Lists.{_∈_}
+use Rattle.ctl.specs.Formula.{Form}
+use Rattle.ctl.specs.Positive.{positive}
+use Rattle.ctl.specs.Closure.{closure}
 use Rattle.ctl.specs.Lean.{withValues, lean}
 use Rattle.ctl.specs.Tableau.{tableauOf, namings}
 use Rattle.ctl.specs.Judging.{formerStart, JudgedFrom}
 use Rattle.ctl.specs.Demand3.{sheetTableau}
-use Rattle.ctl.proofs.Unchanged.{without-values}
+use Rattle.ctl.proofs.Unchanged.{tableau-without, without-values}
 use Rattle.ctl.specs.Former.{formerTableau}
 use Rattle.ctl.proofs.FormerLaws.{tableau-former}
 use Rattle.layout.specs.Text.{split as words}
@@ -52,8 +55,19 @@ module _ (s : List ℕ) (none : WithoutValues s) where
   unfolding withValues
   places-before = ap (λ vs. lean (spellOf s) (withValues vs (members s))) (no-values s none)
 
-  pub tableau-before : tableauIn s ≡ sheetTableau (spellOf s) (isName s) [] (globalsOf (formulas s)) (goalOf (formulas s))
-  tableau-before = ap (λ vs. sheetTableau (spellOf s) (isName s) vs (globalsOf (formulas s)) (goalOf (formulas s))) (no-values s none)
+  tableau-none : tableauIn s ≡ sheetTableau (spellOf s) (isName s) [] (globalsOf (formulas s)) (goalOf (formulas s))
+  tableau-none = ap (λ vs. sheetTableau (spellOf s) (isName s) vs (globalsOf (formulas s)) (goalOf (formulas s))) (no-values s none)
+
+  -- the globals in positive form, and the closure of these and the goal
+  abbrev globals : List Form
+  globals = map positive (globalsOf (formulas s))
+
+  abbrev closed : List Form
+  closed = closure (globals ++ (positive (goalOf (formulas s)) ∷ []))
+
+  pub tableau-before : tableauIn s ≡ record { cl = closed; ln = lean (spellOf s) closed; name = isName s; values = []; globals = globals }
+  unfolding sheetTableau
+  tableau-before = tableau-none ∙ tableau-without (spellOf s) (isName s) globals (positive (goalOf (formulas s)) ∷ [])
 
   values-before : tableauIn s .values ≡ []
   unfolding sheetTableau tableauOf
@@ -70,6 +84,6 @@ module _ (s : List ℕ) (z : readRefusal s ≡ 0) where
   split = globals-goal (formulas s) (formulas-some s z)
 
   pub tableau-single : Single s → WithoutValues s → tableauIn s ≡ formerTableau (letterOf s) (isName s) (globalsOf (formulas s)) (goalOf (formulas s))
-  tableau-single one none = tableau-before s none ∙ tableau-former (spellOf s) (letterOf s) (length (spellings s)) (sheet-spellings s .few) (λ k h. one-letter (spellOf s k) (one k h)) (isName s) (globalsOf (formulas s)) (goalOf (formulas s))
+  tableau-single one none = tableau-none s none ∙ tableau-former (spellOf s) (letterOf s) (length (spellings s)) (sheet-spellings s .few) (λ k h. one-letter (spellOf s k) (one k h)) (isName s) (globalsOf (formulas s)) (goalOf (formulas s))
       (λ p m. formulas-over s z p (subst (λ l. p ∈ l) split (Memᴰ·append-left (goalOf (formulas s) ∷ []) m)))
       (formulas-over s z (goalOf (formulas s)) (subst (λ l. goalOf (formulas s) ∈ l) split (Memᴰ·append-right (globalsOf (formulas s)) (List·Memᴰ·head refl))))

@@ -2,13 +2,13 @@
 use mathlib.Core.Path.{_≡_, refl, sym, ap, _∙_, subst}
 use mathlib.Core.Bool.{Bool, true, false, cond, not, _&&_, _||_}
 use mathlib.Core.List.{List, [], _∷_, _++_, map}
-use Prim.Native.Nat.{ℕ, zero, suc, _≤_, _<_}
+use Prim.Native.Nat.{ℕ, suc, _≤_, _<_}
 use native.Mathlib.Omega.{arith}
 use native.Mathlib.Decide.{decLe}
 use lib.Dec.{T, eqb, ltb, eqb→eq}
 use lib.ListN.{length, getD, length-map, List·getD-eq-default}
 use borrow.Author.Tests.{ltb-true}
-use Rattle.ctl.specs.Lists.{_∈_, below, countFrom, keep, put}
+use Rattle.ctl.specs.Lists.{_∈_, below, keep}
 use Rattle.ctl.specs.Formula.{Form, tru, lit}
 use Rattle.ctl.specs.Equality.{tag, num}
 use Rattle.ctl.specs.Tableau.{Tableau, isName, isValue, namePlaces, otherPlaces, valuePlaces, tableauOf}
@@ -16,7 +16,7 @@ use Rattle.ctl.specs.Positive.{positive}
 use Rattle.ctl.specs.Demand3.{sheetTableau}
 use Rattle.ctl.proofs.BoolLaws.{and-0, and-1, and-both}
 use Rattle.ctl.proofs.FormulaLaws.{is-lit}
-use Rattle.ctl.proofs.ListLaws.{below-in, keep-in, keep-length, keep-out, kept-below, length-count, map-in}
+use Rattle.ctl.proofs.ListLaws.{below-in, keep-in, keep-out, keep-places, kept-below, kept-few, length-put, map-in}
 use Rattle.ctl.proofs.SortLaws.{keep-unique, unique-length}
 use Rattle.ctl.proofs.TableauLaws.{Proper, tableau-proper}
 use Rattle.head.specs.Head.{kindOf, kindRight, kinds, kindsFrom, kindsOf, nameCount}
@@ -62,28 +62,10 @@ pub kinds-two : (s : List ℕ) → nameCount (kinds s) ≤ 2
 unfolding kindsOf
 kinds-two s = from-two _ [] no-names
 
--- ---- places that pass a test, and elements that do
-
-module _ {A : Type 0} where
-  put-length : (b : Bool) (x : A) (l : List A) → length (put b x l) ≡ cond b (suc (length l)) (length l)
-  put-length true x l = refl
-  put-length false x l = refl
-
-keep-shift : (q : ℕ → Bool) (a n : ℕ) → length (keep q (countFrom (suc a) n)) ≡ length (keep (λ i. q (suc i)) (countFrom a n))
-keep-shift q a zero = refl
-keep-shift q a (suc n) = put-length (q (suc a)) (suc a) (keep q (countFrom (suc (suc a)) n)) ∙ ap (λ m. cond (q (suc a)) (suc m) m) (keep-shift q (suc a) n) ∙ sym (put-length (q (suc a)) a (keep (λ i. q (suc i)) (countFrom (suc a) n)))
-
-keep-places : {A : Type 0} (P : A → Bool) (d : A) (l : List A) → length (keep (λ i. P (getD l i d)) (below (length l))) ≡ length (keep P l)
-keep-places P d [] = refl
-keep-places P d (x ∷ l) =
-    put-length (P x) 0 (keep (λ i. P (getD (x ∷ l) i d)) (countFrom 1 (length l)))
-    ∙ ap (λ m. cond (P x) (suc m) m) (keep-shift (λ i. P (getD (x ∷ l) i d)) 0 (length l) ∙ keep-places P d l)
-    ∙ sym (put-length (P x) x (keep P l))
-
 count-keep : (ks : List ℕ) → nameCount ks ≡ length (keep (λ k. eqb k 2) ks)
 unfolding nameCount
 count-keep [] = refl
-count-keep (k ∷ ks) = ap (λ m. cond (eqb k 2) (suc m) m) (count-keep ks) ∙ sym (put-length (eqb k 2) k (keep (λ k. eqb k 2) ks))
+count-keep (k ∷ ks) = ap (λ m. cond (eqb k 2) (suc m) m) (count-keep ks) ∙ sym (length-put (eqb k 2) k (keep (λ k. eqb k 2) ks))
 
 -- ---- the names of a lean
 
@@ -123,11 +105,11 @@ module _ (s : List ℕ) where
   -- how many there are of each, and each is below the lean's width
   pub others-few : length (otherPlaces S) ≤ length (S .ln)
   unfolding otherPlaces
-  others-few = let a = keep-length (λ i. not (isName S (getD (S .ln) i tru))) (below (length (S .ln))) in let b = length-count 0 (length (S .ln)) in omega arith
+  others-few = kept-few (λ i. not (isName S (getD (S .ln) i tru))) (length (S .ln))
 
   pub values-few : length (valuePlaces S) ≤ length (S .ln)
   unfolding valuePlaces
-  values-few = let a = keep-length (λ i. isValue S (getD (S .ln) i tru)) (below (length (S .ln))) in let b = length-count 0 (length (S .ln)) in omega arith
+  values-few = kept-few (λ i. isValue S (getD (S .ln) i tru)) (length (S .ln))
 
   pub name-below : (k : ℕ) → k ∈ namePlaces S → k < length (S .ln)
   unfolding namePlaces

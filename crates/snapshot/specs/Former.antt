@@ -1,4 +1,4 @@
--- What document 01 answers on a snapshot's text: what request §3 is compared with. Nothing but proofs/FormerLaws cites it. Assumes nothing.
+-- What document 01 answers on a snapshot's text: what request §3 is compared with. Only theorems that compare with it cite it. Assumes nothing.
 use mathlib.Core.Bool.{cond}
 use mathlib.Core.List.{List}
 use Prim.Native.Nat.{ℕ}

@@ -115,7 +115,7 @@ module _ (S : Tableau) where
       go [] e none = ap (λ k. oneHeld k []) (sym (none refl))
       go (p ∷ ps) e none =
           ap (λ b. b || eqb (countBelow (length (p ∷ ps)) (λ i. inType t (getD (p ∷ ps) i 0))) 1) (ne-eqb (length (p ∷ ps)) 0 (omega arith))
-          ∙ ap (λ n. eqb n 1) (count-places (inType t) (p ∷ ps))
+          ∙ ap (λ n. eqb n 1) (count-places (inType t) 0 (p ∷ ps))
           ∙ sym (held-asked (S .values) (keep (inType t) (p ∷ ps)) (value-declared (subst (λ l. p ∈ l) (sym e) (List·Memᴰ·head refl))))
 
 -- ---- the tableau

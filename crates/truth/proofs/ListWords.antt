@@ -10,7 +10,7 @@ use lib.Dec.{T}
 use lib.ListN.{length, getD}
 use Rattle.ctl.specs.Lists as L
 use Rattle.ctl.proofs.BoolLaws.{T-cast, T-cast⁻, and-0, and-1, and-in, both-ways}
-use Rattle.ctl.proofs.ListLaws.{any-in, any-out, below-in, below-out, elem-in, elem-out, keep-in, keep-out, Ascending, ascending-count, ascending-keep, keep-length}
+use Rattle.ctl.proofs.ListLaws.{any-in, any-out, below-in, below-out, elem-in, elem-out, keep-in, keep-out, Ascending, ascending-count, ascending-keep, keep-places, kept-few}
 use Rattle.ctl.proofs.SortLaws.{ascending-same}
 use Rattle.ctl.specs.Lists.{_∈_, below, elem, keep, countFrom, put}
 use Rattle.wordset.proofs.BelowLaws.{count-ext, count-front}
@@ -69,13 +69,9 @@ pub list-ascend : (w : ℕ) (ws : List ℕ) → Ascending 0 (listOf w ws)
 unfolding listOf
 list-ascend w ws = ascending-keep (member ws) 0 (below (w * 64)) (ascending-count 0 (w * 64))
 
-count-le : (a n : ℕ) → length (countFrom a n) ≤ n
-count-le a zero = omega arith
-count-le a (suc n) = let h = count-le (suc a) n in omega arith
-
 pub list-few : (w : ℕ) (ws : List ℕ) → length (listOf w ws) ≤ w * 64
 unfolding listOf
-list-few w ws = let a = keep-length (member ws) (below (w * 64)) in let b = count-le 0 (w * 64) in omega arith
+list-few w ws = kept-few (member ws) (w * 64)
 
 -- words that pack an ascending list of numbers below 64 w have that list
 pub list-packed : (w : ℕ) (d x fam : List ℕ) → w ≤ length d → Ascending 0 fam → ((t : ℕ) → t ∈ fam → t < w * 64) → x ≡ packed w (λ t. elem t fam) d → listOf w x ≡ fam
@@ -93,7 +89,7 @@ put-count : (b : Bool) (x : ℕ) (l : List ℕ) → one b + length l ≡ length 
 put-count true x l = omega arith
 put-count false x l = omega arith
 
-pub count-keep : (P : ℕ → Bool) (a n : ℕ) → countBelow n (λ j. P (a + j)) ≡ length (keep P (countFrom a n))
+count-keep : (P : ℕ → Bool) (a n : ℕ) → countBelow n (λ j. P (a + j)) ≡ length (keep P (countFrom a n))
 unfolding countBelow
 count-keep P a zero = refl
 count-keep P a (suc n) =
@@ -101,12 +97,13 @@ count-keep P a (suc n) =
     ∙ ap₂ (λ x y. one x + y) (ap P (add-zero a)) (count-ext (λ j. P (a + suc j)) (λ j. P (suc a + j)) n (λ j h. ap P (add-suc a j ∙ sym (suc-add a j))) ∙ count-keep P (suc a) n)
     ∙ put-count (P a) a (keep P (countFrom (suc a) n))
 
+pub count-below : (P : ℕ → Bool) (n : ℕ) → countBelow n P ≡ length (keep P (below n))
+count-below P n = count-ext P (λ j. P (0 + j)) n (λ j h. ap P (omega arith)) ∙ count-keep P 0 n
+
 -- how many places of a list pass a test
-pub count-places : (P : ℕ → Bool) (l : List ℕ) → countBelow (length l) (λ i. P (getD l i 0)) ≡ length (keep P l)
-unfolding countBelow
-count-places P [] = refl
-count-places P (x ∷ l) = count-front (λ i. P (getD (x ∷ l) i 0)) (length l) ∙ ap (λ n. one (P x) + n) (count-places P l) ∙ put-count (P x) x (keep P l)
+pub count-places : {A : Type 0} (P : A → Bool) (d : A) (l : List A) → countBelow (length l) (λ i. P (getD l i d)) ≡ length (keep P l)
+count-places P d l = count-below (λ i. P (getD l i d)) (length l) ∙ keep-places P d l
 
 pub count-list : (w : ℕ) (ws : List ℕ) → countBelow (w * 64) (member ws) ≡ length (listOf w ws)
 unfolding listOf
-count-list w ws = count-ext (member ws) (λ j. member ws (0 + j)) (w * 64) (λ j h. ap (member ws) (omega arith)) ∙ count-keep (member ws) 0 (w * 64)
+count-list w ws = count-below (member ws) (w * 64)

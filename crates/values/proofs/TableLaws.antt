@@ -12,7 +12,7 @@ use borrow.Author.Tests.{eq-eqb, ne-eqb}
 use Rattle.ctl.specs.Lists.{_∈_, put, keep, below}
 use Rattle.ctl.specs.Formula.{Form, lit}
 use Rattle.ctl.specs.Lean.{withValues}
-use Rattle.ctl.proofs.ListLaws.{keep-length, keep-next, length-count, map-in, map-out}
+use Rattle.ctl.proofs.ListLaws.{keep-next, kept-few, map-in, map-out}
 use Rattle.ctl.proofs.SortLaws.{unique-length}
 use Rattle.ctl.proofs.LeanOrder.{with-in, with-value, with-out, with-unique}
 use Rattle.members.specs.Members.{forms}
@@ -82,7 +82,7 @@ put-map false k = refl
 
 -- no more values than symbols
 values-few : (kinds : List ℕ) (k : ℕ) → length (map lit (keep (isValue kinds) (below k))) ≤ k
-values-few kinds k = let h = keep-length (isValue kinds) (below k) in omega (arith, length-map (keep (isValue kinds) (below k)) lit, length-count 0 k)
+values-few kinds k = subst (λ m. m ≤ k) (sym (length-map (keep (isValue kinds) (below k)) lit)) (kept-few (isValue kinds) k)
 
 -- the values among the first k symbols were put
 pub record Sofar (kinds tab₀ : List ℕ) (n : ℕ) (tab : List ℕ) (m k : ℕ) : Type 0 where
