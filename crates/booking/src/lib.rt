@@ -18,17 +18,16 @@ fn fill_one(
     tw: &[u64],
     lw: &[u64],
     names: &[u8],
-    others: &[u8],
     base: &[u64],
     r: u64,
     store: &mut [u64],
 )
     requires { ⌜ Ready (now ms) (now ln) w (now tw) (now lw) ⌝ }
-    requires { ⌜ Places (now names) (now others) × ((w ≤ 4) × ((w ≤ length (now base)) × (w ≤ length (now store)))) ⌝ }
-    ensures { λ _. ⌜ now (store .exit) ≡ packed w (λ t. elem t (Survivors (now (ms .entry)) (now (ln .entry)) (startList w (now (base .entry)) (now (names .entry)) (now (others .entry)) r))) (now (store .entry)) ⌝ }
+    requires { ⌜ Places w (now ln) (now names) (now base) × ((w ≤ 4) × (w ≤ length (now store))) ⌝ }
+    ensures { λ _. ⌜ now (store .exit) ≡ packed w (λ t. elem t (Survivors (now (ms .entry)) (now (ln .entry)) (startList w (now (base .entry)) (now (names .entry)) (length (now (ln .entry))) r))) (now (store .entry)) ⌝ }
 {
     let mut other = [0u64; 4];
-    judge::fill_table(ms, ln, w, tw, lw, names, others, base, r, store, &mut other);
+    judge::fill_table(ms, ln, w, tw, lw, names, base, r, store, &mut other);
 }
 
 // The tables of namings 0 to n - 1, naming r's w words from word r * w on; the rest of the store is as it was.
@@ -40,20 +39,19 @@ pub fn fill_book(
     tw: &[u64],
     lw: &[u64],
     names: &[u8],
-    others: &[u8],
     base: &[u64],
     namings: u64,
     store: &mut [u64],
 )
     requires { ⌜ Ready (now ms) (now ln) w (now tw) (now lw) ⌝ }
-    requires { ⌜ Places (now names) (now others) × ((w ≤ 4) × ((w ≤ length (now base)) × (namings * w ≤ length (now store)))) ⌝ }
-    ensures { λ _. ⌜ now (store .exit) ≡ tablesBy w (λ r t. elem t (Survivors (now (ms .entry)) (now (ln .entry)) (startList w (now (base .entry)) (now (names .entry)) (now (others .entry)) r))) namings ++ drop (namings * w) (now (store .entry)) ⌝ }
+    requires { ⌜ Places w (now ln) (now names) (now base) × ((w ≤ 4) × (namings * w ≤ length (now store))) ⌝ }
+    ensures { λ _. ⌜ now (store .exit) ≡ tablesBy w (λ r t. elem t (Survivors (now (ms .entry)) (now (ln .entry)) (startList w (now (base .entry)) (now (names .entry)) (length (now (ln .entry))) r))) namings ++ drop (namings * w) (now (store .entry)) ⌝ }
 {
     let mut n = naming::first(namings);
     while n.number < n.count {
         let r = n.number;
         let at = r as usize * w;
-        fill_one(ms, ln, w, tw, lw, names, others, base, r, &mut store[at..]);
+        fill_one(ms, ln, w, tw, lw, names, base, r, &mut store[at..]);
         n = naming::advanced(n);
     }
 }

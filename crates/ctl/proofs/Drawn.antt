@@ -4,11 +4,15 @@ use mathlib.Core.Path.{_≡_, refl}
 use mathlib.Core.List.{List, [], _∷_, map}
 use Prim.Native.Nat.{ℕ, _+_, _^_}
 use lib.ListN.{length, getD}
-use Rattle.ctl.specs.Lists.{elem}
+use Rattle.ctl.specs.Lists.{elem, below}
 use Rattle.ctl.specs.Raw.{Raw, zero, one, sym, neg, and, imp, ex, ax, ef, af, eg, au}
 use Rattle.ctl.specs.Positive.{positive, signed}
 use Rattle.ctl.specs.Tableau.{Tableau, namings, startTypes}
+use Rattle.ctl.specs.Links.{linkBy}
+use Rattle.ctl.specs.Elimination.{survivors}
 use Rattle.ctl.specs.Verdict.{Verdict, unsatisfiable, open′, verdict}
+use Rattle.ctl.specs.Judging.{verdictFrom}
+use Rattle.ctl.specs.Published
 use Rattle.ctl.specs.Demand3.{sheetTableau}
 
 -- a sheet: the spellings of line 1 as bytes, the symbols that are names, those that are values, the globals, the goal
@@ -71,6 +75,21 @@ namedValue =
     let v = sym 0 in
     record { spellings = (118 ∷ []) ∷ (97 ∷ []) ∷ (98 ∷ []) ∷ (102 ∷ []) ∷ []; names = 0 ∷ []; values = 1 ∷ 2 ∷ []; globals = []; goal = and (ex (2 ^ 3) (and v (sym 1))) (ex (2 ^ 11) (and v (sym 2))) }
 
+-- `v w f g`, `name name field field`, `goal EX{f}(v&w)&EX{g}(v&!w)`
+twoNames : Drawing
+twoNames =
+    let v = sym 0 in
+    let w = sym 1 in
+    record { spellings = (118 ∷ []) ∷ (119 ∷ []) ∷ (102 ∷ []) ∷ (103 ∷ []) ∷ []; names = 0 ∷ 1 ∷ []; values = []; globals = []; goal = and (ex (2 ^ 2) (and v w)) (ex (2 ^ 3) (and v (neg w))) }
+
+-- `v w k f g`, `name name mark field field`, `goal EX{f}(v&k)&EX{g}(w&!k)`
+twoSets : Drawing
+twoSets =
+    let v = sym 0 in
+    let w = sym 1 in
+    let m = sym 2 in
+    record { spellings = (118 ∷ []) ∷ (119 ∷ []) ∷ (107 ∷ []) ∷ (102 ∷ []) ∷ (103 ∷ []) ∷ []; names = 0 ∷ 1 ∷ []; values = []; globals = []; goal = and (ex (2 ^ 3) (and v m)) (ex (2 ^ 4) (and w (neg m))) }
+
 -- ---- verdicts
 
 record Case : Type 0 where
@@ -78,7 +97,7 @@ record Case : Type 0 where
   answer : Verdict
 
 cases : List Case
-unfolding kf k forward backward both example51 neverThere otherWay abf namedValue
+unfolding kf k forward backward both example51 neverThere otherWay abf namedValue twoNames twoSets
 cases =
     -- `EX{F}k&EX{F}!k`: not one predecessor for all backward EX
     record { drawing = kf (and (ex backward k) (ex backward (neg k))); answer = open′ 0 6 }
@@ -106,6 +125,10 @@ cases =
     ∷ record { drawing = abf (ex (2 ^ 2) (and (sym 0) (sym 1))); answer = unsatisfiable }
     -- a name's set covers the values
     ∷ record { drawing = namedValue; answer = unsatisfiable }
+    -- and the other names
+    ∷ record { drawing = twoNames; answer = unsatisfiable }
+    -- each name has a set of its own, the first one's in the low bits
+    ∷ record { drawing = twoSets; answer = open′ 2 24 }
     ∷ []
 
 all-verdicts : map (λ c. judged (c .drawing)) cases ≡ map (λ c. c .answer) cases
@@ -124,12 +147,19 @@ unfolding tableau namings startTypes
 sized d = let S = tableau d in length (S .cl) ∷ length (S .ln) ∷ namings S ∷ length (startTypes S 0) ∷ []
 
 drawings : List Sizes
-unfolding abf
+unfolding abf twoNames
 drawings =
     -- a value that does not occur is a lean place, and no closure member
     record { drawing = abf (sym 0); sizes = 1 ∷ 2 ∷ 1 ∷ 2 ∷ [] }
+    -- a name's set has a bit for each other place. (Under naming 0 the start types are the one with each name alone, and those with none)
+    ∷ record { drawing = twoNames; sizes = 8 ∷ 4 ∷ 64 ∷ 6 ∷ [] }
     ∷ []
 
 all-sizes : map (λ c. sized (c .drawing)) drawings ≡ map (λ c. c .sizes) drawings
 unfolding sized drawings
 all-sizes = refl
+
+-- by the published namings the goal with two names was open
+published-open : (let S = tableau twoNames in verdictFrom (S .cl) (S .ln) (Published.startTypes S) (positive (twoNames .goal)) (below (Published.namings S))) ≡ open′ 0 12
+unfolding tableau twoNames verdictFrom Published.startTypes Published.namings signed survivors linkBy
+published-open = refl

@@ -29,6 +29,7 @@ pub mod NodeTypes
 pub mod ValueLaws
 pub mod Soundness
 pub mod NamingLaws
+pub mod NamedTypes
 pub mod Demand3
 pub mod OrderLaws
 pub mod FormerLaws

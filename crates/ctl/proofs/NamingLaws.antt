@@ -1,22 +1,24 @@
--- Some naming fits every snapshot in which each name is on at most one node. Assumes nothing.
-use mathlib.Core.Path.{_≡_, refl, sym, ap, _∙_, subst}
+-- The places that a name's set covers; and some naming fits every snapshot in which each name is on at most one node. Assumes nothing.
+use mathlib.Core.Path.{_≡_, refl, sym, ap, ap₂, _∙_, subst}
 use mathlib.Core.Logic.{_⊎_, inl, inr}
-use mathlib.Core.List.{List, [], _∷_, map, List·Memᴰ·head, List·Memᴰ·tail}
-use Prim.Native.Nat.{ℕ, suc, _+_, _*_, _/_, _%_, _^_, _<_}
+use mathlib.Core.Bool.{not}
+use mathlib.Core.List.{List, [], _∷_, _++_, map, List·Memᴰ·head, List·Memᴰ·tail}
+use Prim.Native.Nat.{ℕ, suc, _+_, _-_, _*_, _/_, _%_, _^_, _<_}
 use native.Mathlib.Nat.{mul-suc, mul-le-mul-right}
 use native.Mathlib.Omega.{arith}
 use lib.Pow.{pow-pos, pow-add, high, low}
-use lib.ListN.{length, getD, length-map}
+use lib.ListN.{length, getD, length-append, length-map}
 use lib.Dec.{T, eqb, eqb-refl}
-use Rattle.ctl.specs.Lists.{_∈_, anyOf, imp, below}
+use borrow.Author.Tests.{ne-eqb}
+use Rattle.ctl.specs.Lists.{_∈_, anyOf, countFrom, imp, keep, below, put}
 use Rattle.ctl.specs.Formula.{tru, lit}
 use Rattle.ctl.specs.Equality.{tag, num}
 use Rattle.ctl.specs.Snapshot.{Snapshot, NamesSingle}
 use Rattle.ctl.specs.Types.{inType}
-use Rattle.ctl.specs.Tableau.{Tableau, isName, namePlaces, otherPlaces, pack, namings, obeysFrom, obeys}
+use Rattle.ctl.specs.Tableau.{Tableau, isName, namePlaces, placesBut, setBits, pack, namings, obeysFrom, obeys}
 use Rattle.ctl.specs.Evaluator.{sat}
-use Rattle.ctl.proofs.BoolLaws.{true-T, T-cast, decide-T, and-in, and-0, and-1, imp-in}
-use Rattle.ctl.proofs.ListLaws.{any-in, any-out, keep-out, below-in, below-out}
+use Rattle.ctl.proofs.BoolLaws.{true-T, T-true, T-cast, decide-T, and-in, and-0, and-1, imp-in}
+use Rattle.ctl.proofs.ListLaws.{any-in, any-out, countFrom-out, keep-all, keep-count, keep-out, below-in, below-out, length-count}
 use Rattle.ctl.proofs.NumberLaws.{number-lt}
 use Rattle.ctl.proofs.FormulaLaws.{is-lit}
 use Rattle.ctl.proofs.EvaluatorLaws.{sat-lit}
@@ -28,6 +30,36 @@ digit-lt c k s r h l = rw (mul-suc c k, pow-add 2 (c * k) c) (omega (arith, mul-
 pack-lt : (l : List ℕ) (t : ℕ) → pack l t < 2 ^ length l
 unfolding pack
 pack-lt l t = subst (λ k. pack l t < 2 ^ k) (length-map l (inType t)) (number-lt (map (inType t) l))
+
+-- ---- the places that a name's set covers
+
+-- the numbers below v + 1 + m but v
+pub but-split : (v m : ℕ) → keep (λ i. not (eqb i v)) (below (v + suc m)) ≡ below v ++ countFrom (suc v) m
+but-split v m =
+    let others : (a n : ℕ) → ((i : ℕ) → i ∈ countFrom a n → i ≡ v → ⊥) → keep (λ i. not (eqb i v)) (countFrom a n) ≡ countFrom a n =
+    λ a n f. keep-all (λ i. not (eqb i v)) (countFrom a n) (λ i h. T-true (not (eqb i v)) (ap not (ne-eqb i v (f i h)))) in
+    sym (keep-count (λ i. not (eqb i v)) 0 v (suc m) v (v + suc m) (omega arith) refl)
+    ∙ ap₂ (λ k l. k ++ l) (others 0 v (λ i h e. let b = countFrom-out 0 v h in omega arith))
+    (ap (λ b. put (not b) v (keep (λ i. not (eqb i v)) (countFrom (suc v) m))) (true-T (eqb v v) (eqb-refl v)) ∙ others (suc v) m (λ i h e. let b = countFrom-out (suc v) m h in omega arith))
+
+module _ (S : Tableau) where
+  pub name-lt : {v : ℕ} → v ∈ namePlaces S → v < length (S .ln)
+  unfolding namePlaces
+  name-lt m = below-out (length (S .ln)) (keep-out (λ i. isName S (getD (S .ln) i tru)) (below (length (S .ln))) m .0)
+
+  -- those before the name, and those after it
+  pub places-but : (v : ℕ) → v < length (S .ln) → placesBut S v ≡ below v ++ countFrom (suc v) (setBits S - v)
+  unfolding placesBut
+  places-but v h = let e : v + suc (setBits S - v) ≡ length (S .ln) = omega arith in ap (λ n. keep (λ i. not (eqb i v)) (below n)) (sym e) ∙ but-split v (setBits S - v)
+
+  pub but-length : (v : ℕ) → v < length (S .ln) → length (placesBut S v) ≡ setBits S
+  but-length v h =
+      ap length (places-but v h) ∙ length-append (below v) (countFrom (suc v) (setBits S - v)) ∙ ap₂ (λ a b. a + b) (length-count 0 v) (length-count (suc v) (setBits S - v)) ∙ omega arith
+
+  set-lt : (v t : ℕ) → v ∈ namePlaces S → pack (placesBut S v) t < 2 ^ setBits S
+  set-lt v t m = subst (λ k. pack (placesBut S v) t < 2 ^ k) (but-length v (name-lt m)) (pack-lt (placesBut S v) t)
+
+-- ---- a naming for a snapshot
 
 module _ (S : Tableau) (s : Snapshot) (single : NamesSingle (S .name) s) where
   open Tableau S using (ln, name)
@@ -48,23 +80,23 @@ module _ (S : Tableau) (s : Snapshot) (single : NamesSingle (S .name) s) where
       (sym (sat-lit s (num p) i il) ∙ true-T (sat s (lit (num p)) i) (at i hi)) (sym (sat-lit s (num p) j jl) ∙ true-T (sat s (lit (num p)) j) (at j hj))
 
   Places : List ℕ → Type 0
-  Places vs = (r : ℕ) × (r < 2 ^ (length (otherPlaces S) * length vs)) × ((i : ℕ) → i < s .n → T (obeysFrom S vs r (ty i)))
+  Places vs = (r : ℕ) × (r < 2 ^ (setBits S * length vs)) × ((i : ℕ) → i < s .n → T (obeysFrom S vs r (ty i)))
 
   find-naming : (vs : List ℕ) → ((v : ℕ) → v ∈ vs → v ∈ namePlaces S) → Places vs
   unfolding Places obeysFrom
-  find-naming [] sub = (0, pow-pos (length (otherPlaces S) * 0), λ i l. tt)
+  find-naming [] sub = (0, pow-pos (setBits S * 0), λ i l. tt)
   find-naming (v ∷ vs) sub = go (decide-T (anyOf (λ i. inType (ty i) v) (below (s .n)))) (find-naming vs (λ w m. sub w (List·Memᴰ·tail m)))
     where
       c : ℕ
-      c = length (otherPlaces S)
+      c = setBits S
 
       -- the name's set before the sets of the later names
-      with-set : (w : ℕ) → w < 2 ^ c → ((i : ℕ) → i < s .n → T (inType (ty i) v) → pack (otherPlaces S) (ty i) ≡ w) → Places vs → Places (v ∷ vs)
+      with-set : (w : ℕ) → w < 2 ^ c → ((i : ℕ) → i < s .n → T (inType (ty i) v) → pack (placesBut S v) (ty i) ≡ w) → Places vs → Places (v ∷ vs)
       with-set w l f rec = (
         rec .0 * 2 ^ c + w,
         digit-lt c (length vs) w (rec .0) l (rec .1),
-        λ i il. and-in (imp (inType (ty i) v) (eqb (pack (otherPlaces S) (ty i)) ((rec .0 * 2 ^ c + w) % 2 ^ c))) (obeysFrom S vs ((rec .0 * 2 ^ c + w) / 2 ^ c) (ty i))
-            (imp-in (inType (ty i) v) (eqb (pack (otherPlaces S) (ty i)) ((rec .0 * 2 ^ c + w) % 2 ^ c))
+        λ i il. and-in (imp (inType (ty i) v) (eqb (pack (placesBut S v) (ty i)) ((rec .0 * 2 ^ c + w) % 2 ^ c))) (obeysFrom S vs ((rec .0 * 2 ^ c + w) / 2 ^ c) (ty i))
+            (imp-in (inType (ty i) v) (eqb (pack (placesBut S v) (ty i)) ((rec .0 * 2 ^ c + w) % 2 ^ c))
             (λ h. rw (low (rec .0) c l, f i il h) (eqb-refl w)))
             (rw (high (rec .0) c l) (rec .2 i il)),
       )
@@ -72,8 +104,8 @@ module _ (S : Tableau) (s : Snapshot) (single : NamesSingle (S .name) s) where
       go : T (anyOf (λ i. inType (ty i) v) (below (s .n))) ⊎ (T (anyOf (λ i. inType (ty i) v) (below (s .n))) → ⊥) → Places vs → Places (v ∷ vs)
       go (inl h) rec =
           let w = any-out (λ i. inType (ty i) v) (below (s .n)) h in
-          with-set (pack (otherPlaces S) (ty (w .0))) (pack-lt (otherPlaces S) (ty (w .0)))
-          (λ i il k. ap (λ x. pack (otherPlaces S) (ty x)) (name-place v i (w .0) (sub v (List·Memᴰ·head refl)) il (below-out (s .n) (w .1)) k (w .2))) rec
+          with-set (pack (placesBut S v) (ty (w .0))) (set-lt S v (ty (w .0)) (sub v (List·Memᴰ·head refl)))
+          (λ i il k. ap (λ x. pack (placesBut S v) (ty x)) (name-place v i (w .0) (sub v (List·Memᴰ·head refl)) il (below-out (s .n) (w .1)) k (w .2))) rec
       go (inr h) rec = with-set 0 (pow-pos c) (λ i il k. absurd (h (any-in (λ i. inType (ty i) v) (below-in il) k))) rec
 
   -- some naming fits the snapshot

@@ -1,11 +1,12 @@
 -- A set of places as a number: its places, its bound, and that they determine it. Assumes nothing.
 use mathlib.Core.Path.{_≡_, refl, sym, ap, ap₂, _∙_, subst}
 use mathlib.Core.Bool.{Bool, true, false}
-use mathlib.Core.List.{List, [], _∷_, map}
-use Prim.Native.Nat.{ℕ, zero, suc, _+_, _*_, _/_, _%_, _^_, _≤_, _<_}
-use native.Mathlib.Nat.{pow-succ', div-div-eq-div-mul, zero-div}
+use mathlib.Core.List.{List, [], _∷_, _++_, map}
+use Prim.Native.Nat.{ℕ, zero, suc, _+_, _-_, _*_, _/_, _%_, _^_, _≤_, _<_}
+use native.Mathlib.Nat.{pow-succ', div-div-eq-div-mul, zero-div, mod-lt, mul-left-comm}
 use native.Mathlib.Omega.{arith}
 use lib.ListN.{length, getD, length-map}
+use lib.Pow.{pow-pos, shr-shr, field, mod-mod-pow}
 use lib.Dec.{eqb}
 use Rattle.ctl.specs.Lists.{countFrom}
 use Rattle.ctl.specs.Numbers.{hasBit, digit, number}
@@ -73,3 +74,26 @@ window-lt f a n = subst (λ k. window f a n < 2 ^ k) (length-map (countFrom a n)
 -- a number below 2 ^ n is that window if it has those places
 pub window-only : (f : ℕ → Bool) (a n x : ℕ) → x < 2 ^ n → ((k : ℕ) → k < n → hasBit x k ≡ f (a + k)) → x ≡ window f a n
 window-only f a n x h g = same-places n x (window f a n) h (window-lt f a n) (λ k l. g k l ∙ sym (window-place f a n k l))
+
+-- ---- the places of a set from a on
+
+-- the first c places of a set, and those from c on
+low-bit : (r c j : ℕ) → j < c → hasBit (r % 2 ^ c) j ≡ hasBit r j
+low-bit r c j h =
+    let d = c - j - 1 in
+    let e : d + 1 + j ≡ c = omega arith in
+    subst (λ x. hasBit (r % 2 ^ x) j ≡ hasBit r j) e (ap (λ y. eqb (y % 2) 1) (field r (d + 1) j) ∙ ap (λ y. eqb y 1) (mod-mod-pow (r / 2 ^ j) d 1))
+
+high-bit : (r c j : ℕ) → hasBit (r / 2 ^ c) j ≡ hasBit r (c + j)
+high-bit r c j = ap (λ y. eqb (y % 2) 1) (shr-shr r c j)
+
+pub window-set : (t a n : ℕ) → window (hasBit t) a n ≡ t / 2 ^ a % 2 ^ n
+window-set t a n = sym (window-only (hasBit t) a n (t / 2 ^ a % 2 ^ n) (mod-lt (t / 2 ^ a) (pow-pos n)) (λ k h. low-bit (t / 2 ^ a) n k h ∙ high-bit t a k))
+
+pub number-append : (l m : List Bool) → number (l ++ m) ≡ number m * 2 ^ length l + number l
+unfolding number
+number-append [] m = omega arith
+number-append (b ∷ l) m =
+    let e : number m * 2 ^ suc (length l) ≡ 2 * (number m * 2 ^ length l) = ap (λ k. number m * k) (pow-succ' 2 (length l)) ∙ mul-left-comm (number m) 2 (2 ^ length l) in
+    let h = number-append l m in
+    omega arith

@@ -22,7 +22,7 @@ pub record NodeType (S : Tableau) (s : Snapshot) (i t : ℕ) : Type 0 where
   pub small : t < 2 ^ length (S .ln)
   pub place : (k : ℕ) → k < length (S .ln) → T (inType t k) ↔ Holds s (getD (S .ln) k tru) i
 
--- Naming r fits the snapshot: each occurring name that a node carries has the non-name places of the node's type. That is, the type of every node obeys.
+-- Naming r fits the snapshot: each occurring name that a node carries has, as its set, all other places of the node's type. That is, the type of every node obeys.
 abbrev pub Fits : Tableau → ℕ → Snapshot → Type 0
 Fits S r s = (i t : ℕ) → i < s .n → NodeType S s i t → T (obeys S r t)
 

@@ -1,6 +1,6 @@
 -- Families, rounds, survivors and verdict from any start types, to compare one definition of the start types with another, and those of document 01. Assumes nothing.
 use mathlib.Core.Path.{_≡_}
-use mathlib.Core.Bool.{_&&_}
+use mathlib.Core.Bool.{Bool, _&&_}
 use mathlib.Core.List.{List, [], _∷_}
 use Prim.Native.Nat.{ℕ, _^_}
 use lib.ListN.{length}
@@ -8,7 +8,7 @@ use Rattle.ctl.specs.Lists.{allOf, keep, below}
 use Rattle.ctl.specs.Formula.{Form}
 use Rattle.ctl.specs.Types.{truth}
 use Rattle.ctl.specs.Links.{linkBy}
-use Rattle.ctl.specs.Tableau.{Tableau, namings, obeys, startTypes}
+use Rattle.ctl.specs.Tableau.{Tableau, namings, startTypes}
 use Rattle.ctl.specs.Elimination.{families, rounds, survivors}
 use Rattle.ctl.specs.Verdict.{familyOf, roundsOf, survivingTypes, Verdict, unsatisfiable, open′, verdict}
 
@@ -29,9 +29,9 @@ module _ (cl ln : List Form) (start : ℕ → List ℕ) where
   verdictFrom goal (r ∷ rs) = let later = verdictFrom goal rs in elim (keep (λ t. truth ln t goal) (survivorsFrom r)) [ [] ↦ later | t ∷ ts ↦ open′ r t ]
 
 -- document 01's start types: those that obey the naming and make all globals true
-unfoldable pub formerStart : Tableau → ℕ → List ℕ
-unfolding obeys truth
-formerStart S r = keep (λ t. obeys S r t && allOf (truth (S .ln) t) (S .globals)) (below (2 ^ length (S .ln)))
+unfoldable pub formerStart : Tableau → (ℕ → ℕ → Bool) → ℕ → List ℕ
+unfolding truth
+formerStart S obeys r = keep (λ t. obeys r t && allOf (truth (S .ln) t) (S .globals)) (below (2 ^ length (S .ln)))
 
 -- the tableau is judged from these start types, with n namings
 pub record JudgedFrom (S : Tableau) (start : ℕ → List ℕ) (n : ℕ) : Type 0 where

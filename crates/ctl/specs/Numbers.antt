@@ -16,3 +16,11 @@ digit false = 0
 unfoldable pub number : List Bool → ℕ
 number [] = 0
 number (b ∷ l) = digit b + 2 * number l
+
+-- digit k of a number, in digits of c bits
+abbrev pub digitAt : ℕ → ℕ → ℕ → ℕ
+digitAt c r k = r / 2 ^ (c * k) % 2 ^ c
+
+-- v, and the numbers of a set with those from v on one higher
+unfoldable pub withPlace : ℕ → ℕ → ℕ
+withPlace v d = (d / 2 ^ v * 2 + 1) * 2 ^ v + d % 2 ^ v

@@ -1,7 +1,7 @@
 -- The tableau of some formulas: closure and lean, namings and start types. Assumes nothing.
 use mathlib.Core.Bool.{Bool, true, not, _&&_}
 use mathlib.Core.List.{List, [], _∷_, _++_, map}
-use Prim.Native.Nat.{ℕ, _*_, _/_, _%_, _^_}
+use Prim.Native.Nat.{ℕ, _-_, _*_, _/_, _%_, _^_}
 use lib.ListN.{length, getD}
 use lib.Dec.{eqb}
 use Rattle.ctl.specs.Lists.{allOf, keep, imp, elem, below}
@@ -42,26 +42,29 @@ module _ (S : Tableau) where
   abbrev pub isName : Form → Bool
   isName p = isLetter p && S .name (num p)
 
-  -- the lean places that are names, and those that are not
+  -- the lean places that are names
   unfoldable pub namePlaces : List ℕ
   namePlaces = keep (λ i. isName (getD (S .ln) i tru)) (below (length (S .ln)))
 
-  unfoldable pub otherPlaces : List ℕ
-  otherPlaces = keep (λ i. not (isName (getD (S .ln) i tru))) (below (length (S .ln)))
+  -- the lean places that a name's set covers: all but the name itself; and how many they are
+  unfoldable pub placesBut : ℕ → List ℕ
+  placesBut v = keep (λ i. not (eqb i v)) (below (length (S .ln)))
+
+  abbrev pub setBits : ℕ
+  setBits = length (S .ln) - 1
 
   -- how many namings there are
   unfoldable pub namings : ℕ
-  unfolding namePlaces otherPlaces
-  namings = 2 ^ (length otherPlaces * length namePlaces)
+  unfolding namePlaces
+  namings = 2 ^ (setBits * length namePlaces)
 
-  -- A type obeys naming r for some names: where it has a name, its non-name places are that name's set. The first name's set is the low bits of r, as many as there
-  -- are non-name places
+  -- A type obeys naming r for some names: where it has a name, its other places, other names among them, are that name's set. The first name's set is the lowest bits of r
   unfoldable pub obeysFrom : List ℕ → ℕ → ℕ → Bool
-  unfolding otherPlaces pack
+  unfolding placesBut pack
   obeysFrom [] r t = true
   obeysFrom (v ∷ vs) r t =
-      let rest = obeysFrom vs (r / 2 ^ length otherPlaces) t in
-      imp (inType t v) (eqb (pack otherPlaces t) (r % 2 ^ length otherPlaces)) && rest
+      let rest = obeysFrom vs (r / 2 ^ setBits) t in
+      imp (inType t v) (eqb (pack (placesBut v) t) (r % 2 ^ setBits)) && rest
 
   unfoldable pub obeys : ℕ → ℕ → Bool
   unfolding obeysFrom namePlaces

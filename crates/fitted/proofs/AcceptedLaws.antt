@@ -1,9 +1,9 @@
 -- What the set-up of a sheet that is not refused gives to every operation. Assumes nothing.
-use mathlib.Core.Path.{_≡_, refl, sym, ap, ap₂, _∙_, subst}
+use mathlib.Core.Path.{_≡_, sym, ap, ap₂, _∙_, subst}
 use mathlib.Core.List.{List, _++_}
 use Prim.Native.Nat.{ℕ, _*_, _/_, _^_, _≤_, _<_, max}
 use native.Mathlib.Omega.{arith}
-use lib.ListN.{length, drop, length-map, replicate}
+use lib.ListN.{length, drop, length-map}
 use lib.Seq.{length-take-le}
 use Rattle.ctl.specs.Positive.{positive}
 use Rattle.ctl.specs.Tableau.{Tableau, namings, startTypes}
@@ -12,7 +12,7 @@ use Rattle.ctl.specs.Verdict.{roundsOf, survivingTypes}
 use Rattle.sheet.specs.Reading.{formulas, goalOf}
 use Rattle.tableau.specs.Families.{Ready, Rounds, Survivors}
 use Rattle.truth.specs.Blocks.{listOf}
-use Rattle.start.specs.Starts.{inBase, startList}
+use Rattle.start.specs.Starts.{Based, inBase, startList}
 use Rattle.tableau.specs.Tabled.{Tabled}
 use Rattle.truth.specs.Tables.{form, leanForms}
 use Rattle.tableau.specs.declared.table.Counts.{Counts}
@@ -26,7 +26,7 @@ use Rattle.ctl.specs.Lists.{elem}
 use Rattle.booking.specs.Booked.{tablesBy}
 use Rattle.booking.proofs.BookLaws.{tables-ext}
 use Rattle.frame.specs.Framed.{Framed}
-use Rattle.frame.specs.SetUp.{Accepts, SetUp, frameIn, globalsIn, leanIn, membersIn, namesIn, othersIn, valuesIn}
+use Rattle.frame.specs.SetUp.{Accepts, SetUp, frameIn, globalsIn, leanIn, membersIn, namesIn, valuesIn}
 use Rattle.frame.specs.declared.Setup.{Setup}
 use Rattle.frame.proofs.Stores.{links-most}
 use Rattle.frame.proofs.VerdictLaws.{framed-verdict}
@@ -49,7 +49,7 @@ module _ {s : List ℕ} {u : Setup} (x : SetUp s u) (z : u .refusal ≡ 0) where
   accepts : Accepts s u
   accepts = x .accepts not-refused
 
-  framed : Framed S (positive (goalOf (formulas s))) (membersIn u) (leanIn u) (globalsIn u) (namesIn u) (othersIn u) (valuesIn u) (frameIn u)
+  framed : Framed S (positive (goalOf (formulas s))) (membersIn u) (leanIn u) (globalsIn u) (namesIn u) (valuesIn u) (frameIn u)
   framed = accepts .framed
 
   pub members-within : u .count ≤ length (u .members)
@@ -60,9 +60,6 @@ module _ {s : List ℕ} {u : Setup} (x : SetUp s u) (z : u .refusal ≡ 0) where
 
   pub names-within : u .names ≤ length (u .named)
   names-within = accepts .names-within
-
-  pub others-within : u .others ≤ length (u .unnamed)
-  others-within = accepts .others-within
 
   pub few-words : u .words ≤ 4
   few-words = framed .few-words .1
@@ -92,10 +89,10 @@ module _ {s : List ℕ} {u : Setup} (x : SetUp s u) (z : u .refusal ≡ 0) where
   -- what a store holds that has a naming's surviving types in its first words
   pub store-lists : (r : ℕ) (d d′ : List ℕ) → u .words ≤ length d → d′ ≡ packed (wordsIn s) (λ t. elem t (survivingTypes S r)) d → listOf (u .words) d′ ≡ survivingTypes S r
   store-lists r d d′ h e =
-      store-types (framed .matches) (u .words) (replicate 4 0) (packed (u .words) (inBase (membersIn u) (leanIn u) (globalsIn u) (valuesIn u)) (replicate 4 0)) few-words refl (framed .enough) r d d′ h
+      store-types S (u .words) (subst (λ n. 2 ^ n ≤ u .words * 64) (sym lean-length) (framed .enough)) r d d′ h
       (e ∙ ap (λ w. packed w (λ t. elem t (survivingTypes S r)) d) (sym words-are))
 
-  pub few-namings : u .namings ≤ 65536
+  pub few-namings : u .namings ≤ 16384
   few-namings = framed .few-namings
 
   -- ---- the words that are computed once
@@ -105,39 +102,39 @@ module _ {s : List ℕ} {u : Setup} (x : SetUp s u) (z : u .refusal ≡ 0) where
   links-within = links-most accepts
 
   -- what filling them asks
-  pub words-asked : (t l b : ℕ) → t ≡ 288 → u .links ≤ l → b ≡ 4 → ((q : List ℕ) × Accepts q u) × ((288 ≤ t) × (u .links ≤ l) × (4 ≤ b))
+  pub words-asked : (t l b : ℕ) → t ≡ 288 → u .links ≤ l → b ≡ 8 → ((q : List ℕ) × Accepts q u) × ((288 ≤ t) × (u .links ≤ l) × (8 ≤ b))
   words-asked t l b e h i = ((s, accepts), (omega arith, h, omega arith))
 
-  module _ {tw lw : List ℕ} (base₀ : List ℕ) {base : List ℕ} (f : Ready (membersIn u) (leanIn u) (u .words) tw lw × (base ≡ packed (u .words) (inBase (membersIn u) (leanIn u) (globalsIn u) (valuesIn u)) base₀)) (l₀ : length base₀ ≡ 4) (l : length base ≡ 4) where
-    enough-base : u .words ≤ length base₀
-    enough-base = let w = few-words in omega arith
+  module _ {tw lw base : List ℕ} (f : Ready (membersIn u) (leanIn u) (u .words) tw lw × Based (u .words) (inBase (membersIn u) (leanIn u) (globalsIn u) (valuesIn u)) (namesIn u) base) (l : length base ≡ 8) where
+    places : Places (u .words) (leanIn u) (namesIn u) base
+    places = let w = few-words in record { named = framed .named; enough = framed .enough; base-room = omega arith }
 
     -- ---- one naming's table
 
     pub fill-asked : (m n : ℕ) → 4 ≤ m → 4 ≤ n
-        → Ready (membersIn u) (leanIn u) (u .words) tw lw × (Places (namesIn u) (othersIn u) × ((u .words ≤ 4) × ((u .words ≤ length base) × ((u .words ≤ m) × (u .words ≤ n)))))
-    fill-asked m n a b = let w = few-words in (f .0, (framed .places-in, (w, (omega arith, (omega arith, omega arith)))))
+        → Ready (membersIn u) (leanIn u) (u .words) tw lw × (Places (u .words) (leanIn u) (namesIn u) base × ((u .words ≤ 4) × ((u .words ≤ m) × (u .words ≤ n))))
+    fill-asked m n a b = let w = few-words in (f .0, (places, (w, (omega arith, omega arith))))
 
     module _ (r : ℕ) where
       abbrev start : List ℕ
-      start = startList (u .words) base (namesIn u) (othersIn u) r
+      start = startList (u .words) base (namesIn u) (length (leanIn u)) r
 
       pub table-filled : {first second first′ second′ : List ℕ} {c : Counts} → Tabled start (Survivors (membersIn u) (leanIn u) start) (Rounds (membersIn u) (leanIn u) start) (u .words) first second first′ second′ c
           → TabledIn s r first second first′ second′ c
       table-filled {first} {second} {first′} {second′} {c} t =
           subst (λ w. Tabled (startTypes S r) (survivingTypes S r) (roundsOf S r) w first second first′ second′ c) words-are
-          (tabled (framed .matches) (u .words) base₀ base enough-base (f .1) (framed .enough) r t)
+          (tabled (framed .matches) (u .words) base (f .1) (framed .enough) r t)
 
       pub survivors-are : Survivors (membersIn u) (leanIn u) start ≡ survivingTypes S r
-      survivors-are = surviving-types (framed .matches) (u .words) base₀ base enough-base (f .1) (framed .enough) r
+      survivors-are = surviving-types (framed .matches) (u .words) base (f .1) (framed .enough) r
 
     -- ---- the tables of all namings
 
     pub book-asked : (n : ℕ) → u .namings * u .words ≤ n
-        → Ready (membersIn u) (leanIn u) (u .words) tw lw × (Places (namesIn u) (othersIn u) × ((u .words ≤ 4) × ((u .words ≤ length base) × (u .namings * u .words ≤ n))))
-    book-asked n h = let w = few-words in (f .0, (framed .places-in, (w, (omega arith, h))))
+        → Ready (membersIn u) (leanIn u) (u .words) tw lw × (Places (u .words) (leanIn u) (namesIn u) base × ((u .words ≤ 4) × (u .namings * u .words ≤ n)))
+    book-asked n h = (f .0, (places, (few-words, h)))
 
-    pub book-filled : (d : List ℕ) {d′ : List ℕ} → d′ ≡ tablesBy (u .words) (λ r t. elem t (Survivors (membersIn u) (leanIn u) (startList (u .words) base (namesIn u) (othersIn u) r))) (u .namings) ++ drop (u .namings * u .words) d → d′ ≡ bookIn s d
+    pub book-filled : (d : List ℕ) {d′ : List ℕ} → d′ ≡ tablesBy (u .words) (λ r t. elem t (Survivors (membersIn u) (leanIn u) (startList (u .words) base (namesIn u) (length (leanIn u)) r))) (u .namings) ++ drop (u .namings * u .words) d → d′ ≡ bookIn s d
     book-filled d e =
         e ∙ ap (λ l. l ++ drop (u .namings * u .words) d) (tables-ext (u .words) _ _ (u .namings) (λ r t. ap (elem t) (survivors-are r)))
         ∙ ap₂ (λ w n. tablesBy w (λ r t. elem t (survivingTypes S r)) n ++ drop (n * w) d) words-are namings-are
@@ -145,11 +142,11 @@ module _ {s : List ℕ} {u : Setup} (x : SetUp s u) (z : u .refusal ≡ 0) where
     -- ---- judging
 
     pub judge-asked : (first second among todo found : List ℕ) → length first ≡ 4 → length second ≡ 4 → length among ≡ 4 → length todo ≡ 4 → length found ≡ 4
-        → Ready (membersIn u) (leanIn u) (u .words) tw lw × (Room (u .words) first second among todo found × (Places (namesIn u) (othersIn u) × ((u .words ≤ length base) × (u .goal < length (membersIn u)))))
+        → Ready (membersIn u) (leanIn u) (u .words) tw lw × (Room (u .words) first second among todo found × (Places (u .words) (leanIn u) (namesIn u) base × (u .goal < length (membersIn u))))
     judge-asked first second among todo found a b c d e =
         let w = few-words in
-        (f .0, (record { first-room = omega arith; second-room = omega arith; u-room = omega arith; todo-room = omega arith; v-room = omega arith }, (framed .places-in, (omega arith, framed .goal-inside))))
+        (f .0, (record { first-room = omega arith; second-room = omega arith; u-room = omega arith; todo-room = omega arith; v-room = omega arith }, (places, framed .goal-inside)))
 
-    pub judged : {v : Verdict} → Judged (goalsAt (membersIn u) (leanIn u) (u .words) base (namesIn u) (othersIn u) (u .goal)) (u .namings) v → verdictIn s ≡ verdictOf v
+    pub judged : {v : Verdict} → Judged (goalsAt (membersIn u) (leanIn u) (u .words) base (namesIn u) (u .goal)) (u .namings) v → verdictIn s ≡ verdictOf v
     unfolding verdictIn
-    judged j = framed-verdict framed base₀ enough-base (f .1) j
+    judged j = framed-verdict framed base (f .1) j

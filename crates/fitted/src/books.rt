@@ -15,9 +15,8 @@ fn book_in(sheet: &[u8], u: Setup, store: &mut [u64], lw: &mut [u64])
     let members = u.members;
     let lean = u.lean;
     let named = u.named;
-    let unnamed = u.unnamed;
     let mut tw = [0u64; 288];
-    let mut base = [0u64; 4];
+    let mut base = [0u64; 8];
     frame::fill(u, &mut tw, lw, &mut base);
     booking::fill_book(
         &members[..u.count],
@@ -26,7 +25,6 @@ fn book_in(sheet: &[u8], u: Setup, store: &mut [u64], lw: &mut [u64])
         &tw,
         lw,
         &named[..u.names],
-        &unnamed[..u.others],
         &base,
         u.namings,
         store,

@@ -24,9 +24,8 @@ fn table_in(
     let members = u.members;
     let lean = u.lean;
     let named = u.named;
-    let unnamed = u.unnamed;
     let mut tw = [0u64; 288];
-    let mut base = [0u64; 4];
+    let mut base = [0u64; 8];
     frame::fill(u, &mut tw, lw, &mut base);
     judge::fill_table(
         &members[..u.count],
@@ -35,7 +34,6 @@ fn table_in(
         &tw,
         lw,
         &named[..u.names],
-        &unnamed[..u.others],
         &base,
         naming,
         first,

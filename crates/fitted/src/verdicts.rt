@@ -17,9 +17,8 @@ fn judge_in(sheet: &[u8], u: Setup, lw: &mut [u64]) -> Verdict
     let members = u.members;
     let lean = u.lean;
     let named = u.named;
-    let unnamed = u.unnamed;
     let mut tw = [0u64; 288];
-    let mut base = [0u64; 4];
+    let mut base = [0u64; 8];
     frame::fill(u, &mut tw, lw, &mut base);
     let mut first = [0u64; 4];
     let mut second = [0u64; 4];
@@ -33,7 +32,6 @@ fn judge_in(sheet: &[u8], u: Setup, lw: &mut [u64]) -> Verdict
         &tw,
         lw,
         &named[..u.names],
-        &unnamed[..u.others],
         &base,
         u.goal,
         u.namings,

@@ -1,7 +1,7 @@
 -- Copying some places turn by turn, and the number of namings as a shift. Assumes nothing.
 use mathlib.Core.Path.{_≡_, refl, sym, ap, _∙_}
 use mathlib.Core.List.{List, [], _∷_, _++_}
-use Prim.Native.Nat.{ℕ, zero, suc, _+_, _*_, _%_, _^_, _≤_, _<_}
+use Prim.Native.Nat.{ℕ, zero, suc, _+_, _-_, _*_, _%_, _^_, _≤_, _<_}
 use native.Mathlib.Omega.{arith}
 use lib.ListN.{length, getD, set, take, length-set}
 use lib.Seq.{take-suc, take-suc-set}
@@ -34,11 +34,11 @@ module _ {places : List ℕ} {n : ℕ} {to₀ : List ℕ} where
 
 -- ---- the number of namings
 
-pub few-bits : (names others : ℕ) → names ≤ 2 → others ≤ 8 → others * names ≤ 16
-few-bits zero others h k = omega arith
-few-bits (suc zero) others h k = omega arith
-few-bits (suc (suc zero)) others h k = omega arith
-few-bits (suc (suc (suc n))) others h k = absurd (omega arith)
+pub few-bits : (names width : ℕ) → names ≤ 2 → width ≤ 8 → (width - 1) * names ≤ 14
+few-bits zero width h k = omega arith
+few-bits (suc zero) width h k = omega arith
+few-bits (suc (suc zero)) width h k = omega arith
+few-bits (suc (suc (suc n))) width h k = absurd (omega arith)
 
 pub shift-is : (n : ℕ) → n ≤ 16 → (1 * 2 ^ n) % 2 ^ 64 ≡ 2 ^ n
 shift-is n h = shl-one n (omega arith)

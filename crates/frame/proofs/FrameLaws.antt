@@ -1,6 +1,5 @@
 -- What finding a frame asks at each call, and that what the calls give is the sheet's tableau. Assumes nothing.
 use mathlib.Core.Path.{_≡_, sym, ap, ap₂, _∙_, subst}
-use mathlib.Core.Bool.{true, false}
 use mathlib.Core.List.{List, map}
 use Prim.Native.Nat.{ℕ, zero, suc, _-_, _*_, _^_, _≤_, _<_}
 use native.Mathlib.Omega.{arith}
@@ -9,7 +8,7 @@ use lib.Pow.{pow-mono}
 use lib.Seq.{getD-take, length-take-le}
 use Rattle.ctl.proofs.ListLaws.{getD-in}
 use Rattle.ctl.specs.Positive.{positive}
-use Rattle.ctl.specs.Tableau.{Tableau, namePlaces, namings, otherPlaces, valuePlaces}
+use Rattle.ctl.specs.Tableau.{Tableau, namePlaces, namings, valuePlaces}
 use Rattle.sheet.specs.Refusal.{readRefusal}
 use Rattle.sheet.specs.Reading.{formulas, goalOf, globalsOf}
 use Rattle.truth.specs.Tables.{Leans, Table, form}
@@ -21,9 +20,9 @@ use Rattle.prepare.specs.Places.{placesBy, Sought, Found}
 use Rattle.prepare.specs.Width.{WordsFor}
 use Rattle.prepare.proofs.Bridge.{ex-places, formulas-some, global-inside, globals-map, goal, goal-inside, lean-length, leans, table, table-length, tableau-lean}
 use Rattle.prepare.proofs.PlaceLaws.{held}
-use Rattle.prepare.proofs.PlaceBridge.{names-are, others-are, values-are, found-matches, sought}
-use Rattle.prepare.proofs.NameCount.{name-below, names-two, other-below, others-few, value-below, values-few}
-use Rattle.judge.specs.Judged.{Places}
+use Rattle.prepare.proofs.PlaceBridge.{names-are, values-are, found-matches, sought}
+use Rattle.prepare.proofs.NameCount.{name-below, names-two, value-below, values-few}
+use Rattle.start.specs.Starts.{Named}
 use Rattle.frame.specs.Framed.{Framed, FramedAs, Frames, Given, Sound}
 use Rattle.frame.proofs.CopyLaws.{few-bits}
 
@@ -38,12 +37,11 @@ truth-room n (suc (suc (suc zero))) h k = omega arith
 truth-room n (suc (suc (suc (suc zero)))) h k = omega arith
 truth-room n (suc (suc (suc (suc (suc w))))) h k = absurd (omega arith)
 
--- ---- the three lists of places, each in its store
+-- ---- the two lists of places, each in its store
 
-pub record Parts (ms ln kinds names others values names′ others′ values′ : List ℕ) (k m v : ℕ) : Type 0 where
-  pub names-found : Found (placesBy true 2 ms ln kinds) names names′ k
-  pub others-found : Found (placesBy false 2 ms ln kinds) others others′ m
-  pub values-found : Found (placesBy true 4 ms ln kinds) values values′ v
+pub record Parts (ms ln kinds names values names′ values′ : List ℕ) (k v : ℕ) : Type 0 where
+  pub names-found : Found (placesBy 2 ms ln kinds) names names′ k
+  pub values-found : Found (placesBy 4 ms ln kinds) values values′ v
 
 -- ---- of a reading itself
 
@@ -99,59 +97,52 @@ module _ (s : List ℕ) (r : Reading) (x : Says s r) (z : readRefusal s ≡ 0) w
         globals-map s r x z globals (omega arith)
         (λ j h. ap (λ l. getD l j 0) e ∙ getD-take (length ps - 1) ps j 0 (omega arith) ∙ place-is j (omega arith))
 
-  module _ (narrow : length ln ≤ 8) {names others values names′ others′ values′ : List ℕ} {k m v : ℕ} (y : Parts ms ln ks names others values names′ others′ values′ k m v) where
+  module _ (narrow : length ln ≤ 8) {names values names′ values′ : List ℕ} {k v : ℕ} (y : Parts ms ln ks names values names′ values′ k v) where
     name-count : k ≡ length (namePlaces S)
     name-count = y .names-found .many ∙ ap length (names-are s r x z)
-
-    other-count : m ≡ length (otherPlaces S)
-    other-count = y .others-found .many ∙ ap length (others-are s r x z)
 
     value-count : v ≡ length (valuePlaces S)
     value-count = y .values-found .many ∙ ap length (values-are s r x z)
 
-    parts-few : (k ≤ 2) × (m ≤ 8) × (v ≤ 8)
+    parts-few : (k ≤ 2) × (v ≤ 8)
     parts-few =
         let a = name-count in
-        let b = other-count in
-        let c = value-count in
-        let d = names-two s in
-        let e = others-few s in
-        let f = values-few s in
-        let g = tableau-width in
-        (omega arith, omega arith, omega arith)
+        let b = value-count in
+        let c = names-two s in
+        let d = values-few s in
+        let e = tableau-width in
+        (omega arith, omega arith)
 
-    namings-is : 2 ^ (m * k) ≡ namings S
+    -- where there is a name, there is a lean place
+    names-some : 0 < k → 0 < length ln
+    names-some h =
+        let a = name-count in
+        let b = name-below s (getD (namePlaces S) 0 0) (getD-in 0 (namePlaces S) 0 (omega arith)) in
+        let c = tableau-width in
+        omega arith
+
+    namings-is : 2 ^ ((length ln - 1) * k) ≡ namings S
     unfolding namings
-    namings-is = ap₂ (λ a b. 2 ^ (a * b)) other-count name-count
+    namings-is = ap₂ (λ a b. 2 ^ ((a - 1) * b)) (sym tableau-width) name-count
 
     -- what holds of the tableau's places holds of those that were found
     names-held : take k names′ ≡ namePlaces S
     names-held = held (y .names-found) ∙ names-are s r x z
 
-    others-held : take m others′ ≡ otherPlaces S
-    others-held = held (y .others-found) ∙ others-are s r x z
-
     values-held : take v values′ ≡ valuePlaces S
     values-held = held (y .values-found) ∙ values-are s r x z
 
-    tableau-places : Places (namePlaces S) (otherPlaces S)
-    tableau-places =
-        let e = tableau-width in
-        let f = others-few s in
-        record {
-          names-few = names-two s;
-          others-few = omega arith;
-          names-in = λ i h. (let b = name-below s (getD (namePlaces S) i 0) (getD-in 0 (namePlaces S) i h) in omega arith);
-          others-in = λ i h. (let b = other-below s (getD (otherPlaces S) i 0) (getD-in 0 (otherPlaces S) i h) in omega arith);
-        }
-
-    found-places : Places (take k names′) (take m others′)
-    found-places = subst (λ l. Places l (take m others′)) (sym names-held) (subst (λ l. Places (namePlaces S) l) (sym others-held) tableau-places)
+    found-named : Named (take k names′) (length ln)
+    found-named = subst (λ l. Named l (length ln)) (sym names-held) (record {
+      few = names-two s;
+      within = λ i h. (let b = name-below s (getD (namePlaces S) i 0) (getD-in 0 (namePlaces S) i h) in let e = tableau-width in omega arith);
+      narrow = omega arith;
+    })
 
     values-low : (i : ℕ) → i < length (take v values′) → getD (take v values′) i 0 ≤ 60
     values-low = subst (λ l. (i : ℕ) → i < length l → getD l i 0 ≤ 60) (sym values-held) (λ i h. (let e = tableau-width in let b = value-below s (getD (valuePlaces S) i 0) (getD-in 0 (valuePlaces S) i h) in omega arith))
 
-    module _ (many : length ps ≡ r .formulas) (small : length ms ≤ 72) {w l n : ℕ} (globals′ : List ℕ) (wide : WordsFor (length ln) w) (el : l ≡ linkRoom ms w) (eg : take (length ps - 1) globals′ ≡ take (length ps - 1) ps) (en : n ≡ 2 ^ (m * k)) where
+    module _ (many : length ps ≡ r .formulas) (small : length ms ≤ 72) {w l n : ℕ} (globals′ : List ℕ) (wide : WordsFor (length ln) w) (el : l ≡ linkRoom ms w) (eg : take (length ps - 1) globals′ ≡ take (length ps - 1) ps) (en : n ≡ 2 ^ ((length ln - 1) * k)) where
       abbrev globals : List ℕ
       globals = take (length ps - 1) globals′
 
@@ -164,10 +155,10 @@ module _ (s : List ℕ) (r : Reading) (x : Says s r) (z : readRefusal s ≡ 0) w
         values-in = values-low;
       }
 
-      framed-read : r .formulas ≤ 5 → Framed S (positive (goalOf (formulas s))) ms ln globals (take k names′) (take m others′) (take v values′) (record { words = w; links = l; globals = length ps - 1; names = k; others = m; values = v; goal = getD ps (length ps - 1) 0; namings = n })
+      framed-read : r .formulas ≤ 5 → Framed S (positive (goalOf (formulas s))) ms ln globals (take k names′) (take v values′) (record { words = w; links = l; globals = length ps - 1; names = k; values = v; goal = getD ps (length ps - 1) 0; namings = n })
       framed-read few = record {
         sound = read-sound;
-        matches = found-matches s r x z (held (y .names-found)) (held (y .others-found)) (held (y .values-found)) globals (before-map many globals eg);
+        matches = found-matches s r x z (held (y .names-found)) (held (y .values-found)) globals (before-map many globals eg);
         enough = wide .enough;
         few-words = (wide .some, wide .few);
         no-more = wide .tight;
@@ -176,10 +167,10 @@ module _ (s : List ℕ) (r : Reading) (x : Says s r) (z : readRefusal s ≡ 0) w
         goal-inside = last-inside many;
         goal-is = last-form many;
         namings-are = en ∙ namings-is;
-        few-namings = subst (λ m. m ≤ 65536) (sym en) (pow-mono (few-bits k m (parts-few .0) (parts-few .1)));
+        few-namings = subst (λ m. m ≤ 16384) (sym en) (pow-mono (few-bits k (length ln) (parts-few .0) narrow));
         few-globals = omega arith;
         few-places = parts-few;
-        places-in = found-places;
+        named = found-named;
       }
 
 -- ---- of lists that are a reading's
@@ -214,24 +205,24 @@ module _ {ms ln kinds places s : List ℕ} {r : Reading} (g : Given ms ln kinds 
   given-before : (j : ℕ) → j < length places - 1 → getD places j 0 < length ms
   given-before = given-by (λ m l k p. (j : ℕ) → j < length p - 1 → getD p j 0 < length m) (before-inside s r (g .says) (g .read) given-many)
 
-  given-few : length ln ≤ 8 → {names others values names′ others′ values′ : List ℕ} {k m v : ℕ} → Parts ms ln kinds names others values names′ others′ values′ k m v → (k ≤ 2) × (m ≤ 8)
-  given-few h {names} {others} {values} {names′} {others′} {values′} {k} {m} {v} =
-      given-by (λ a b c p. length b ≤ 8 → Parts a b c names others values names′ others′ values′ k m v → (k ≤ 2) × (m ≤ 8)) (λ n y. (let f = parts-few s r (g .says) (g .read) n y in (f .0, f .1))) h
+  given-few : length ln ≤ 8 → {names values names′ values′ : List ℕ} {k v : ℕ} → Parts ms ln kinds names values names′ values′ k v → (k ≤ 2) × (0 < k → 0 < length ln)
+  given-few h {names} {values} {names′} {values′} {k} {v} =
+      given-by (λ a b c p. length b ≤ 8 → Parts a b c names values names′ values′ k v → (k ≤ 2) × (0 < k → 0 < length b)) (λ n y. (parts-few s r (g .says) (g .read) n y .0, names-some s r (g .says) (g .read) n y)) h
 
   given-sought : (store : List ℕ) → length ln ≤ 8 → 8 ≤ length store → Sought ms ln store
   given-sought store h i = let a = given-width in given-by (λ m l k p. Sought m l store) (sought s r (g .says) store (omega arith) (omega arith))
 
-  pub given-framed : length ln ≤ 8 → length ms ≤ 72 → r .formulas ≤ 5 → {w l n : ℕ} (globals′ : List ℕ) {names others values names′ others′ values′ : List ℕ} {k m v : ℕ} → WordsFor (length ln) w → l ≡ linkRoom ms w
-      → take (length places - 1) globals′ ≡ take (length places - 1) places → Parts ms ln kinds names others values names′ others′ values′ k m v → n ≡ 2 ^ (m * k)
-      → Framed (tableauIn s) (positive (goalOf (formulas s))) ms ln (take (length places - 1) globals′) (take k names′) (take m others′) (take v values′) (record { words = w; links = l; globals = length places - 1; names = k; others = m; values = v; goal = getD places (length places - 1) 0; namings = n })
-  given-framed h i few {w} {l} {n} globals′ {names} {others} {values} {names′} {others′} {values′} {k} {m} {v} wide el eg y en =
-      given-by (λ a e c p. length e ≤ 8 → length a ≤ 72 → WordsFor (length e) w → l ≡ linkRoom a w → take (length p - 1) globals′ ≡ take (length p - 1) p → Parts a e c names others values names′ others′ values′ k m v
-      → Framed (tableauIn s) (positive (goalOf (formulas s))) a e (take (length p - 1) globals′) (take k names′) (take m others′) (take v values′) (record { words = w; links = l; globals = length p - 1; names = k; others = m; values = v; goal = getD p (length p - 1) 0; namings = n }))
-      (λ a b c d e f. framed-read s r (g .says) (g .read) a f given-many b globals′ c d e en few) h i wide el eg y
+  pub given-framed : length ln ≤ 8 → length ms ≤ 72 → r .formulas ≤ 5 → {w l n : ℕ} (globals′ : List ℕ) {names values names′ values′ : List ℕ} {k v : ℕ} → WordsFor (length ln) w → l ≡ linkRoom ms w
+      → take (length places - 1) globals′ ≡ take (length places - 1) places → Parts ms ln kinds names values names′ values′ k v → n ≡ 2 ^ ((length ln - 1) * k)
+      → Framed (tableauIn s) (positive (goalOf (formulas s))) ms ln (take (length places - 1) globals′) (take k names′) (take v values′) (record { words = w; links = l; globals = length places - 1; names = k; values = v; goal = getD places (length places - 1) 0; namings = n })
+  given-framed h i few {w} {l} {n} globals′ {names} {values} {names′} {values′} {k} {v} wide el eg y en =
+      given-by (λ a e c p. length e ≤ 8 → length a ≤ 72 → WordsFor (length e) w → l ≡ linkRoom a w → take (length p - 1) globals′ ≡ take (length p - 1) p → Parts a e c names values names′ values′ k v → n ≡ 2 ^ ((length e - 1) * k)
+      → Framed (tableauIn s) (positive (goalOf (formulas s))) a e (take (length p - 1) globals′) (take k names′) (take v values′) (record { words = w; links = l; globals = length p - 1; names = k; values = v; goal = getD p (length p - 1) 0; namings = n }))
+      (λ a b c d e f n. framed-read s r (g .says) (g .read) a f given-many b globals′ c d e n few) h i wide el eg y en
 
 -- ---- call by call
 
-module _ {ms ln kinds places globals names others values : List ℕ} (x : Frames ms ln kinds places globals names others values) where
+module _ {ms ln kinds places globals names values : List ℕ} (x : Frames ms ln kinds places globals names values) where
   pub frame-narrow : length ln ≤ 8
   frame-narrow = let a = given-width (x .given) in let b = x .narrow in omega arith
 
@@ -254,19 +245,16 @@ module _ {ms ln kinds places globals names others values : List ℕ} (x : Frames
   pub names-sought : Sought ms ln names
   names-sought = given-sought (x .given) names frame-narrow (x .names-room)
 
-  pub others-sought : Sought ms ln others
-  others-sought = given-sought (x .given) others frame-narrow (x .others-room)
-
   pub values-sought : Sought ms ln values
   values-sought = given-sought (x .given) values frame-narrow (x .values-room)
 
-  module _ {names′ others′ values′ : List ℕ} {k m v : ℕ} (a : Found (placesBy true 2 ms ln kinds) names names′ k) (b : Found (placesBy false 2 ms ln kinds) others others′ m) (c : Found (placesBy true 4 ms ln kinds) values values′ v) where
-    parts : Parts ms ln kinds names others values names′ others′ values′ k m v
-    parts = record { names-found = a; others-found = b; values-found = c }
+  module _ {names′ values′ : List ℕ} {k v : ℕ} (a : Found (placesBy 2 ms ln kinds) names names′ k) (b : Found (placesBy 4 ms ln kinds) values values′ v) where
+    parts : Parts ms ln kinds names values names′ values′ k v
+    parts = record { names-found = a; values-found = b }
 
-    pub count-asks : (k ≤ 2) × (m ≤ 8)
-    count-asks = given-few (x .given) frame-narrow parts
+    pub count-asks : (k ≤ 2) × ((length ln ≤ 8) × (0 < k → 0 < length ln))
+    count-asks = let f = given-few (x .given) frame-narrow parts in (f .0, (frame-narrow, f .1))
 
-    pub frame-is : {w l n : ℕ} (globals′ : List ℕ) → WordsFor (length ln) w → l ≡ linkRoom ms w → take (length places - 1) globals′ ≡ take (length places - 1) places → n ≡ 2 ^ (m * k)
-        → FramedAs ms ln kinds places globals′ names′ others′ values′ (record { words = w; links = l; globals = length places - 1; names = k; others = m; values = v; goal = getD places (length places - 1) 0; namings = n })
+    pub frame-is : {w l n : ℕ} (globals′ : List ℕ) → WordsFor (length ln) w → l ≡ linkRoom ms w → take (length places - 1) globals′ ≡ take (length places - 1) places → n ≡ 2 ^ ((length ln - 1) * k)
+        → FramedAs ms ln kinds places globals′ names′ values′ (record { words = w; links = l; globals = length places - 1; names = k; values = v; goal = getD places (length places - 1) 0; namings = n })
     frame-is globals′ wide el eg en = λ s r g. given-framed g frame-narrow frame-small (let a = frame-few in let b = g .many in omega arith) globals′ wide el eg parts en

@@ -86,9 +86,9 @@ module _ {s : List ℕ} {r : Reading} (x : ReadIs 64 8 s r) {k : ℕ} (e : k ≡
         let f = sheet-spellings s .few in
         omega arith
 
-    pub frame-asked : {globals names others values : List ℕ} → length (r .places) ≡ 5 → length globals ≡ 8 → length names ≡ 8 → length others ≡ 8 → length values ≡ 8
-        → Frames (tableOf r) (leanOf r) (kindsOf r) (take (r .formulas) (r .places)) globals names others values
-    frame-asked a b c d e = record {
+    pub frame-asked : {globals names values : List ℕ} → length (r .places) ≡ 5 → length globals ≡ 8 → length names ≡ 8 → length values ≡ 8
+        → Frames (tableOf r) (leanOf r) (kindsOf r) (take (r .formulas) (r .places)) globals names values
+    frame-asked a b c d = record {
       sheet = s;
       reading = r;
       given = given a;
@@ -97,12 +97,11 @@ module _ {s : List ℕ} {r : Reading} (x : ReadIs 64 8 s r) {k : ℕ} (e : k ≡
       small = table-few;
       globals-room = omega arith;
       names-room = omega arith;
-      others-room = omega arith;
       values-room = omega arith;
     }
 
-    pub setup-accepted : {globals′ names′ others′ values′ : List ℕ} {f : Frame} → length (r .places) ≡ 5
-        → FramedAs (tableOf r) (leanOf r) (kindsOf r) (take (r .formulas) (r .places)) globals′ names′ others′ values′ f → length globals′ ≡ 8 → length names′ ≡ 8 → length others′ ≡ 8 → length values′ ≡ 8
+    pub setup-accepted : {globals′ names′ values′ : List ℕ} {f : Frame} → length (r .places) ≡ 5
+        → FramedAs (tableOf r) (leanOf r) (kindsOf r) (take (r .formulas) (r .places)) globals′ names′ values′ f → length globals′ ≡ 8 → length names′ ≡ 8 → length values′ ≡ 8
         → SetUp s (record {
           refusal = 0;
           count = r .count;
@@ -113,8 +112,6 @@ module _ {s : List ℕ} {r : Reading} (x : ReadIs 64 8 s r) {k : ℕ} (e : k ≡
           everywhere = globals′;
           names = f .names;
           named = names′;
-          others = f .others;
-          unnamed = others′;
           values = f .values;
           valued = values′;
           words = f .words;
@@ -122,7 +119,7 @@ module _ {s : List ℕ} {r : Reading} (x : ReadIs 64 8 s r) {k : ℕ} (e : k ≡
           goal = f .goal;
           namings = f .namings;
         })
-    setup-accepted {globals′} {names′} {others′} {values′} {f} a y b c d e = record {
+    setup-accepted {globals′} {names′} {values′} {f} a y b c d = record {
       is = sym zero-is;
       accepts = λ z. (let x = y s r (given a) in
           let m = x .few-globals in
@@ -133,7 +130,6 @@ module _ {s : List ℕ} {r : Reading} (x : ReadIs 64 8 s r) {k : ℕ} (e : k ≡
             lean-within = width-within;
             globals-within = omega arith;
             names-within = omega arith;
-            others-within = omega arith;
             values-within = omega arith;
           });
     }

@@ -1,15 +1,16 @@
 -- What the words of an accepted sheet are, and what they ask of the stores that are lent to them. Assumes nothing.
 use mathlib.Core.Path.{sym, subst}
 use mathlib.Core.List.{List}
-use Prim.Native.Nat.{ℕ, _*_, _≤_}
+use Prim.Native.Nat.{ℕ, _+_, _*_, _≤_}
 use native.Mathlib.Omega.{arith}
 use lib.ListN.{length}
 use Rattle.tableau.specs.Families.{Ready}
 use Rattle.links.specs.Links.{Rows, linkRoom}
+use Rattle.start.specs.Starts.{Named}
 use Rattle.truth.specs.Truths.{Truths}
 use Rattle.links.proofs.LinkWords.{link-room-within}
 use Rattle.frame.specs.Framed.{Sound}
-use Rattle.frame.specs.SetUp.{Accepts, globalsIn, leanIn, membersIn, valuesIn}
+use Rattle.frame.specs.SetUp.{Accepts, globalsIn, leanIn, membersIn, namesIn, valuesIn}
 use Rattle.frame.specs.declared.Setup.{Setup}
 
 -- what the elimination goes by
@@ -21,11 +22,11 @@ module _ {s : List ℕ} {u : Setup} (a : Accepts s u) where
   pub links-most : u .links ≤ 16400
   links-most = let f = a .framed in subst (λ n. n ≤ 16400) (sym (f .links-are)) (link-room-within (membersIn u) (u .words) (f .few-words .1))
 
-  pub fill-asks : (t l b : ℕ) → 288 ≤ t → u .links ≤ l → 4 ≤ b
-      → Sound (membersIn u) (leanIn u) (globalsIn u) (valuesIn u) × ((u .words ≤ 4) × (length (membersIn u) * u .words ≤ t) × (linkRoom (membersIn u) (u .words) ≤ l) × (u .words ≤ b))
+  pub fill-asks : (t l b : ℕ) → 288 ≤ t → u .links ≤ l → 8 ≤ b
+      → (Sound (membersIn u) (leanIn u) (globalsIn u) (valuesIn u) × Named (namesIn u) (length (leanIn u))) × ((u .words ≤ 4) × (length (membersIn u) * u .words ≤ t) × (linkRoom (membersIn u) (u .words) ≤ l) × (u .words + u .words ≤ b))
   fill-asks t l b e h i =
       let f = a .framed in
       let w = f .few-words .1 in
       let m = f .few-truths in
       let n = f .links-are in
-      (f .sound, (w, omega arith, omega arith, omega arith))
+      ((f .sound, f .named), (w, omega arith, omega arith, omega arith))

@@ -15,7 +15,7 @@ use Rattle.truth.specs.Tables.{ExPlaced, Leans, Table, form}
 use Rattle.reader.specs.declared.Reading.{Reading}
 use Rattle.reader.specs.Reader.{Says}
 use Rattle.prepare.specs.Prepared.{kindsOf, leanOf, tableOf, tableauIn}
-use Rattle.judge.specs.Judged.{Places}
+use Rattle.start.specs.Starts.{Named}
 use Rattle.frame.specs.declared.Frame.{Frame}
 
 -- the table, the lean, the kinds and the formulas' places are those of a sheet that was read
@@ -29,7 +29,7 @@ pub record Given (ms ln kinds places : List ℕ) (s : List ℕ) (r : Reading) : 
   pub many : length places ≡ r .formulas
 
 -- what is asked: these, within their limits, and room in the stores
-pub record Frames (ms ln kinds places globals names others values : List ℕ) : Type 0 where
+pub record Frames (ms ln kinds places globals names values : List ℕ) : Type 0 where
   pub sheet : List ℕ
   pub reading : Reading
   pub given : Given ms ln kinds places sheet reading
@@ -38,7 +38,6 @@ pub record Frames (ms ln kinds places globals names others values : List ℕ) : 
   pub small : reading .count ≤ 72
   pub globals-room : 8 ≤ length globals
   pub names-room : 8 ≤ length names
-  pub others-room : 8 ≤ length others
   pub values-room : 8 ≤ length values
 
 -- a table with its lean, in which each EX over one mode has a place, globals of it, and value places
@@ -50,9 +49,9 @@ pub record Sound (ms ln globals values : List ℕ) : Type 0 where
   pub values-in : (i : ℕ) → i < length values → getD values i 0 ≤ 60
 
 -- and what is given
-pub record Framed (S : Tableau) (goal : Form) (ms ln globals names others values : List ℕ) (f : Frame) : Type 0 where
+pub record Framed (S : Tableau) (goal : Form) (ms ln globals names values : List ℕ) (f : Frame) : Type 0 where
   pub sound : Sound ms ln globals values
-  pub matches : Matches S ms ln globals names others values
+  pub matches : Matches S ms ln globals names values
   pub enough : 2 ^ length ln ≤ f .words * 64
   pub few-words : (1 ≤ f .words) × (f .words ≤ 4)
   pub no-more : f .words * 64 ≤ max 64 (2 ^ length ln)
@@ -61,13 +60,13 @@ pub record Framed (S : Tableau) (goal : Form) (ms ln globals names others values
   pub goal-inside : f .goal < length ms
   pub goal-is : form ms (f .goal) ≡ goal
   pub namings-are : f .namings ≡ namings S
-  pub few-namings : f .namings ≤ 65536
+  pub few-namings : f .namings ≤ 16384
   pub few-globals : f .globals ≤ 8
-  pub few-places : (f .names ≤ 2) × (f .others ≤ 8) × (f .values ≤ 8)
-  pub places-in : Places names others
+  pub few-places : (f .names ≤ 2) × (f .values ≤ 8)
+  pub named : Named names (length ln)
 
 -- for whichever sheet and reading they are of
-abbrev pub FramedAs : List ℕ → List ℕ → List ℕ → List ℕ → List ℕ → List ℕ → List ℕ → List ℕ → Frame → Type 0
-FramedAs ms ln kinds places globals′ names′ others′ values′ f =
+abbrev pub FramedAs : List ℕ → List ℕ → List ℕ → List ℕ → List ℕ → List ℕ → List ℕ → Frame → Type 0
+FramedAs ms ln kinds places globals′ names′ values′ f =
     (s : List ℕ) (r : Reading) → Given ms ln kinds places s r
-    → Framed (tableauIn s) (positive (goalOf (formulas s))) ms ln (take (f .globals) globals′) (take (f .names) names′) (take (f .others) others′) (take (f .values) values′) f
+    → Framed (tableauIn s) (positive (goalOf (formulas s))) ms ln (take (f .globals) globals′) (take (f .names) names′) (take (f .values) values′) f

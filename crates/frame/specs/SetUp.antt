@@ -23,8 +23,6 @@ nothingBy k = record {
   everywhere = replicate 8 0;
   names = 0;
   named = replicate 8 0;
-  others = 0;
-  unnamed = replicate 8 0;
   values = 0;
   valued = replicate 8 0;
   words = 0;
@@ -46,23 +44,19 @@ globalsIn r = take (r .globals) (r .everywhere)
 abbrev pub namesIn : Setup → List ℕ
 namesIn r = take (r .names) (r .named)
 
-abbrev pub othersIn : Setup → List ℕ
-othersIn r = take (r .others) (r .unnamed)
-
 abbrev pub valuesIn : Setup → List ℕ
 valuesIn r = take (r .values) (r .valued)
 
 abbrev pub frameIn : Setup → Frame
-frameIn r = record { words = r .words; links = r .links; globals = r .globals; names = r .names; others = r .others; values = r .values; goal = r .goal; namings = r .namings }
+frameIn r = record { words = r .words; links = r .links; globals = r .globals; names = r .names; values = r .values; goal = r .goal; namings = r .namings }
 
 -- that of a sheet which is not refused
 pub record Accepts (s : List ℕ) (r : Setup) : Type 0 where
-  pub framed : Framed (tableauIn s) (positive (goalOf (formulas s))) (membersIn r) (leanIn r) (globalsIn r) (namesIn r) (othersIn r) (valuesIn r) (frameIn r)
+  pub framed : Framed (tableauIn s) (positive (goalOf (formulas s))) (membersIn r) (leanIn r) (globalsIn r) (namesIn r) (valuesIn r) (frameIn r)
   pub members-within : r .count ≤ length (r .members)
   pub lean-within : r .width ≤ length (r .lean)
   pub globals-within : r .globals ≤ length (r .everywhere)
   pub names-within : r .names ≤ length (r .named)
-  pub others-within : r .others ≤ length (r .unnamed)
   pub values-within : r .values ≤ length (r .valued)
 
 pub record SetUp (s : List ℕ) (r : Setup) : Type 0 where

@@ -2,14 +2,13 @@
 // then the words that are computed from it, in stores that are lent by its size. Assumes nothing.
 ghost use mathlib.Core.Path.{_≡_};
 ghost use mathlib.Core.List.{List};
-ghost use Prim.Native.Nat.{ℕ, _*_, _^_, _≤_, _<_};
+ghost use Prim.Native.Nat.{ℕ, _+_, _-_, _*_, _^_, _≤_, _<_};
 ghost use lib.ListN.{length, getD, take};
 ghost use Rattle.tableau.specs.Families.{Ready};
 ghost use Rattle.links.specs.Links.{linkRoom};
-ghost use Rattle.start.specs.Starts.{inBase};
-ghost use Rattle.wordset.specs.Words.{packed};
+ghost use Rattle.start.specs.Starts.{Based, inBase, Named};
 ghost use Rattle.frame.specs.Framed.{Frames, FramedAs, Sound};
-ghost use Rattle.frame.specs.SetUp.{Accepts, SetUp, globalsIn, leanIn, membersIn, nothingBy, valuesIn};
+ghost use Rattle.frame.specs.SetUp.{Accepts, SetUp, globalsIn, leanIn, membersIn, namesIn, nothingBy, valuesIn};
 
 // The first n of some places, each below 256, at the beginning of a store.
 fn copy_places(places: &[usize], n: usize, to: &mut [u8])
@@ -24,28 +23,30 @@ fn copy_places(places: &[usize], n: usize, to: &mut [u8])
     }
 }
 
-// How many namings there are for so many names and other places.
-fn count_namings(names: usize, others: usize) -> u64
-    requires { ⌜ (names ≤ 2) × (others ≤ 8) ⌝ }
-    ensures { λ r. ⌜ r ≡ 2 ^ (others * names) ⌝ }
+// How many namings there are for so many names in a lean of that width: a bit for each name and each place but the name's own.
+fn count_namings(names: usize, width: usize) -> u64
+    requires { ⌜ (names ≤ 2) × ((width ≤ 8) × (0 < names → 0 < width)) ⌝ }
+    ensures { λ r. ⌜ r ≡ 2 ^ ((width - 1) * names) ⌝ }
 {
-    1 << (others * names)
+    if names == 0 {
+        return 1;
+    }
+    1 << ((width - 1) * names)
 }
 
-// How many words hold the types, and how many link words they need; how many globals, names, other places and values there are; the goal's
-// place in the table; how many namings there are.
+// How many words hold the types, and how many link words they need; how many globals, names and values there are; the goal's place in the
+// table; how many namings there are.
 pub struct Frame {
     pub words: usize,
     pub links: usize,
     pub globals: usize,
     pub names: usize,
-    pub others: usize,
     pub values: usize,
     pub goal: usize,
     pub namings: u64,
 }
 
-// The places of globals, names, others and values, each in its store.
+// The places of globals, names and values, each in its store.
 fn frame_of(
     ms: &[u64],
     ln: &[u8],
@@ -53,26 +54,23 @@ fn frame_of(
     places: &[usize],
     globals: &mut [u8],
     names: &mut [u8],
-    others: &mut [u8],
     values: &mut [u8],
 ) -> Frame
-    requires { ⌜ Frames (now ms) (now ln) (now kinds) (now places) (now globals) (now names) (now others) (now values) ⌝ }
-    ensures { λ f. ⌜ FramedAs (now (ms .entry)) (now (ln .entry)) (now (kinds .entry)) (now (places .entry)) (now (globals .exit)) (now (names .exit)) (now (others .exit)) (now (values .exit)) f ⌝ }
+    requires { ⌜ Frames (now ms) (now ln) (now kinds) (now places) (now globals) (now names) (now values) ⌝ }
+    ensures { λ f. ⌜ FramedAs (now (ms .entry)) (now (ln .entry)) (now (kinds .entry)) (now (places .entry)) (now (globals .exit)) (now (names .exit)) (now (values .exit)) f ⌝ }
 {
     let w = prepare::words_for(ln.len());
     let links = links::link_room(ms, w);
     let n = places.len() - 1;
     copy_places(places, n, globals);
-    let k = prepare::kind_places(ms, ln, kinds, 2, true, names);
-    let m = prepare::kind_places(ms, ln, kinds, 2, false, others);
-    let v = prepare::kind_places(ms, ln, kinds, 4, true, values);
-    let namings = count_namings(k, m);
+    let k = prepare::kind_places(ms, ln, kinds, 2, names);
+    let v = prepare::kind_places(ms, ln, kinds, 4, values);
+    let namings = count_namings(k, ln.len());
     Frame {
         words: w,
         links,
         globals: n,
         names: k,
-        others: m,
         values: v,
         goal: places[n],
         namings,
@@ -80,7 +78,7 @@ fn frame_of(
 }
 
 // What judging a sheet goes by: its closure with the values that do not occur, and its lean, as the reader has them, the places of globals,
-// names, others and values, and the frame's numbers; or its refusal, with nothing else.
+// names and values, and the frame's numbers; or its refusal, with nothing else.
 pub struct Setup {
     pub refusal: u8,
     pub count: usize,
@@ -91,8 +89,6 @@ pub struct Setup {
     pub everywhere: [u8; 8],
     pub names: usize,
     pub named: [u8; 8],
-    pub others: usize,
-    pub unnamed: [u8; 8],
     pub values: usize,
     pub valued: [u8; 8],
     pub words: usize,
@@ -114,8 +110,6 @@ fn nothing(k: u8) -> Setup
         everywhere: [0u8; 8],
         names: 0,
         named: [0u8; 8],
-        others: 0,
-        unnamed: [0u8; 8],
         values: 0,
         valued: [0u8; 8],
         words: 0,
@@ -145,7 +139,6 @@ pub fn set_up(s: &[u8]) -> Setup
     let formulas = reading.formulas;
     let mut everywhere = [0u8; 8];
     let mut named = [0u8; 8];
-    let mut unnamed = [0u8; 8];
     let mut valued = [0u8; 8];
     let f = frame_of(
         &members[..count],
@@ -154,7 +147,6 @@ pub fn set_up(s: &[u8]) -> Setup
         &places[..formulas],
         &mut everywhere,
         &mut named,
-        &mut unnamed,
         &mut valued,
     );
     Setup {
@@ -167,8 +159,6 @@ pub fn set_up(s: &[u8]) -> Setup
         everywhere,
         names: f.names,
         named,
-        others: f.others,
-        unnamed,
         values: f.values,
         valued,
         words: f.words,
@@ -178,44 +168,47 @@ pub fn set_up(s: &[u8]) -> Setup
     }
 }
 
-// Truth words and link words, and in `base` the types that hold one value and in which all globals are true.
+// Truth words and link words, and in `base` the types that hold one value and in which all globals are true, by whether they have a name.
 fn fill_words(
     ms: &[u64],
     ln: &[u8],
     w: usize,
     globals: &[u8],
     values: &[u8],
+    names: &[u8],
     tw: &mut [u64],
     lw: &mut [u64],
     base: &mut [u64],
 )
-    requires { ⌜ Sound (now ms) (now ln) (now globals) (now values) ⌝ }
-    requires { ⌜ (w ≤ 4) × (length (now ms) * w ≤ length (now tw)) × (linkRoom (now ms) w ≤ length (now lw)) × (w ≤ length (now base)) ⌝ }
+    requires { ⌜ Sound (now ms) (now ln) (now globals) (now values) × Named (now names) (length (now ln)) ⌝ }
+    requires { ⌜ (w ≤ 4) × (length (now ms) * w ≤ length (now tw)) × (linkRoom (now ms) w ≤ length (now lw)) × (w + w ≤ length (now base)) ⌝ }
     ensures { λ _. ⌜ Ready (now (ms .entry)) (now (ln .entry)) w (now (tw .exit)) (now (lw .exit)) ⌝ }
-    ensures { λ _. ⌜ now (base .exit) ≡ packed w (inBase (now (ms .entry)) (now (ln .entry)) (now (globals .entry)) (now (values .entry))) (now (base .entry)) ⌝ }
+    ensures { λ _. ⌜ Based w (inBase (now (ms .entry)) (now (ln .entry)) (now (globals .entry)) (now (values .entry))) (now (names .entry)) (now (base .exit)) ⌝ }
 {
     truth::truth_words(ms, ln, tw, w);
     links::link_words(ms, ln, tw, lw, w);
-    start::base_words(ms, ln, tw, w, globals, values, base);
+    start::base_words(ms, ln, tw, w, globals, values, names, base);
 }
 
 // The words that depend on the sheet alone, in stores that are lent by its size.
 pub fn fill(u: Setup, tw: &mut [u64], lw: &mut [u64], base: &mut [u64])
     requires { ⌜ ((s : List ℕ) × Accepts s u) ⌝ }
-    requires { ⌜ (288 ≤ length (now tw)) × (u .links ≤ length (now lw)) × (4 ≤ length (now base)) ⌝ }
+    requires { ⌜ (288 ≤ length (now tw)) × (u .links ≤ length (now lw)) × (8 ≤ length (now base)) ⌝ }
     ensures { λ _. ⌜ Ready (membersIn u) (leanIn u) (u .words) (now (tw .exit)) (now (lw .exit)) ⌝ }
-    ensures { λ _. ⌜ now (base .exit) ≡ packed (u .words) (inBase (membersIn u) (leanIn u) (globalsIn u) (valuesIn u)) (now (base .entry)) ⌝ }
+    ensures { λ _. ⌜ Based (u .words) (inBase (membersIn u) (leanIn u) (globalsIn u) (valuesIn u)) (namesIn u) (now (base .exit)) ⌝ }
 {
     let members = u.members;
     let lean = u.lean;
     let everywhere = u.everywhere;
     let valued = u.valued;
+    let named = u.named;
     fill_words(
         &members[..u.count],
         &lean[..u.width],
         u.words,
         &everywhere[..u.globals],
         &valued[..u.values],
+        &named[..u.names],
         tw,
         lw,
         base,

@@ -1,4 +1,4 @@
--- Document 01's proved graphs, and sheets with values, from the bytes of each sheet, through the definitions that the contracts cite, to what Verdict and Table answer, which types
+-- Document 01's proved graphs, and sheets with values and with two names, from the bytes of each sheet, through the definitions that the contracts cite, to what Verdict and Table answer, which types
 -- survive, as a set and as List lists them, the rows of snapshots and the numbers that refuse them: one table, computed. Assumes nothing.
 use mathlib.Core.Path.{_≡_, refl}
 use mathlib.Core.List.{List, [], _∷_, _++_, map}
@@ -76,7 +76,26 @@ graphs =
     }
     ∷ graph (under "AF{f}k&AX{f}0&!k") Unsatisfiable
     ∷ graph (under "A{f,F}(1Uk)&!k&EX{f}!k") Unsatisfiable
-    ∷ graph (ascii "v w f g\nname name field field\ngoal EX{f}(v&w)&EX{g}(v&!w)\n") (Open 0 12)
+    -- document 01 has open 0 12 here. By document 02 §4 a name's set covers the other names, so v's one node cannot have w through f and not have it through g
+    ∷ record {
+      sheet = ascii "v w f g\nname name field field\ngoal EX{f}(v&w)&EX{g}(v&!w)\n";
+      verdict = Unsatisfiable ∷ [];
+      tables = (0, Done 1 6 4 1) ∷ (1, Done 1 5 2 1) ∷ [];
+      survivors = [];
+      lists = [];
+      rows = [];
+      refused = [];
+    }
+    -- each name has a set of its own, the first name's in the low bits
+    ∷ record {
+      sheet = ascii "v w k f g\nname name mark field field\ngoal EX{f}(v&k)&EX{g}(w&!k)\n";
+      verdict = Open 2 24 ∷ [];
+      tables = (2, Done 1 10 10 0) ∷ [];
+      survivors = [];
+      lists = [];
+      rows = [];
+      refused = [];
+    }
     ∷ record { sheet = under "EG{f}!k"; verdict = []; tables = []; survivors = []; lists = []; rows = (ascii "k f\n0 0\n", 3 ∷ []) ∷ []; refused = [] }
     ∷ record { sheet = under "AF{f}k"; verdict = []; tables = []; survivors = []; lists = []; rows = (ascii "k f\n0 1\n", 2 ∷ []) ∷ (ascii "k f\n0 0\n", 2 ∷ []) ∷ []; refused = [] }
     -- values: a declared one that does not occur is in the lean, and every type at start holds exactly one

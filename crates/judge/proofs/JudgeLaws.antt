@@ -17,7 +17,7 @@ use Rattle.wordset.specs.Words.{packed}
 use Rattle.truth.specs.Truths.{trueAt}
 use Rattle.truth.specs.Blocks.{listOf}
 use Rattle.tableau.specs.Families.{Survivors}
-use Rattle.start.specs.Starts.{startList, inBase}
+use Rattle.start.specs.Starts.{Based, inBase, startList}
 use Rattle.truth.specs.Tables.{form}
 use Rattle.goal.specs.Goals.{firstOf}
 use Rattle.goal.specs.declared.Found.{Found}
@@ -42,13 +42,13 @@ first-some [] t e = absurd (let z : _≡_ {A = ℕ} 0 1 = cc in omega arith)
 first-some (u ∷ us) t e = let i : u ≡ t = cc in (us, ap (λ x. x ∷ us) i)
 
 -- what is found in a store that holds the surviving types
-pub found-is : (ms ln : List ℕ) (w : ℕ) (base names others : List ℕ) (goal r : ℕ) (d x : List ℕ) (a : Found) → w ≤ length d
-    → x ≡ packed w (λ t. elem t (Survivors ms ln (startList w base names others r))) d
+pub found-is : (ms ln : List ℕ) (w : ℕ) (base names : List ℕ) (goal r : ℕ) (d x : List ℕ) (a : Found) → w ≤ length d
+    → x ≡ packed w (λ t. elem t (Survivors ms ln (startList w base names (length ln) r))) d
     → a ≡ firstOf (keep (trueAt ms ln goal) (listOf w x))
-    → a ≡ firstOf (goalsAt ms ln w base names others goal r)
+    → a ≡ firstOf (goalsAt ms ln w base names goal r)
 unfolding goalsAt
-found-is ms ln w base names others goal r d x a h e f =
-    f ∙ ap (λ l. firstOf (keep (trueAt ms ln goal) l)) (survivors-list ms ln w (startList w base names others r) d x (start-ascend w base names others r) (start-below w base names others r) h e)
+found-is ms ln w base names goal r d x a h e f =
+    f ∙ ap (λ l. firstOf (keep (trueAt ms ln goal) l)) (survivors-list ms ln w (startList w base names (length ln) r) d x (start-ascend w base names (length ln) r) (start-below w base names (length ln) r) h e)
 
 -- ---- naming after naming
 
@@ -144,12 +144,12 @@ judged-as : {f g : ℕ → List ℕ} {n : ℕ} {a : Verdict} → ((r : ℕ) → 
 judged-as i (opens {r} {t} l h e) = opens l (λ q k. sym (i q) ∙ h q k) (ap firstOf (sym (i r)) ∙ e)
 judged-as i (closes h) = closes (λ q k. sym (i q) ∙ h q k)
 
-module _ {S : Tableau} {ms ln globals names others values : List ℕ} (m : Matches S ms ln globals names others values) (w : ℕ) (d base : List ℕ) (h : w ≤ length d) (eb : base ≡ packed w (inBase ms ln globals values) d) (top : 2 ^ length ln ≤ w * 64)
+module _ {S : Tableau} {ms ln globals names values : List ℕ} (m : Matches S ms ln globals names values) (w : ℕ) (base : List ℕ) (eb : Based w (inBase ms ln globals values) names base) (top : 2 ^ length ln ≤ w * 64)
     (goal : ℕ) where
-  pub goals-are : (r : ℕ) → goalsAt ms ln w base names others goal r ≡ goalTypes S (form ms goal) r
+  pub goals-are : (r : ℕ) → goalsAt ms ln w base names goal r ≡ goalTypes S (form ms goal) r
   unfolding goalsAt goalTypes
-  goals-are r = ap₂ (λ l k. keep (λ t. truth l t (form ms goal)) k) (sym (m .lean)) (surviving-types m w d base h eb top r)
+  goals-are r = ap₂ (λ l k. keep (λ t. truth l t (form ms goal)) k) (sym (m .lean)) (surviving-types m w base eb top r)
 
   -- what `judge` finds is the verdict
-  pub judged-is : {a : Verdict} → Judged (goalsAt ms ln w base names others goal) (namings S) a → verdict S (form ms goal) ≡ verdictOf a
+  pub judged-is : {a : Verdict} → Judged (goalsAt ms ln w base names goal) (namings S) a → verdict S (form ms goal) ≡ verdictOf a
   judged-is j = judged-verdict S (form ms goal) (judged-as goals-are j)

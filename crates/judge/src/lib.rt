@@ -25,15 +25,14 @@ pub fn fill_table(
     tw: &[u64],
     lw: &[u64],
     names: &[u8],
-    others: &[u8],
     base: &[u64],
     r: u64,
     first: &mut [u64],
     second: &mut [u64],
 ) -> Counts
     requires { ⌜ Ready (now ms) (now ln) w (now tw) (now lw) ⌝ }
-    requires { ⌜ Places (now names) (now others) × ((w ≤ 4) × ((w ≤ length (now base)) × ((w ≤ length (now first)) × (w ≤ length (now second))))) ⌝ }
-    ensures { λ c. ⌜ Tabled (startList w (now (base .entry)) (now (names .entry)) (now (others .entry)) r) (Survivors (now (ms .entry)) (now (ln .entry)) (startList w (now (base .entry)) (now (names .entry)) (now (others .entry)) r)) (Rounds (now (ms .entry)) (now (ln .entry)) (startList w (now (base .entry)) (now (names .entry)) (now (others .entry)) r)) w (now (first .entry)) (now (second .entry)) (now (first .exit)) (now (second .exit)) c ⌝ }
+    requires { ⌜ Places w (now ln) (now names) (now base) × ((w ≤ 4) × ((w ≤ length (now first)) × (w ≤ length (now second)))) ⌝ }
+    ensures { λ c. ⌜ Tabled (startList w (now (base .entry)) (now (names .entry)) (length (now (ln .entry))) r) (Survivors (now (ms .entry)) (now (ln .entry)) (startList w (now (base .entry)) (now (names .entry)) (length (now (ln .entry))) r)) (Rounds (now (ms .entry)) (now (ln .entry)) (startList w (now (base .entry)) (now (names .entry)) (length (now (ln .entry))) r)) w (now (first .entry)) (now (second .entry)) (now (first .exit)) (now (second .exit)) c ⌝ }
 {
     let mut u = [0u64; 4];
     let mut todo = [0u64; 4];
@@ -45,7 +44,6 @@ pub fn fill_table(
         tw,
         lw,
         names,
-        others,
         r,
         base,
         first,
@@ -64,7 +62,6 @@ fn try_naming(
     tw: &[u64],
     lw: &[u64],
     names: &[u8],
-    others: &[u8],
     base: &[u64],
     goal: usize,
     r: u64,
@@ -76,25 +73,10 @@ fn try_naming(
 ) -> Found
     requires { ⌜ Ready (now ms) (now ln) w (now tw) (now lw) ⌝ }
     requires { ⌜ Room w (now first) (now second) (now u) (now todo) (now v) ⌝ }
-    requires { ⌜ Places (now names) (now others) × ((w ≤ length (now base)) × (goal < length (now ms))) ⌝ }
-    ensures { λ a. ⌜ a ≡ firstOf (goalsAt (now (ms .entry)) (now (ln .entry)) w (now (base .entry)) (now (names .entry)) (now (others .entry)) goal r) ⌝ }
+    requires { ⌜ Places w (now ln) (now names) (now base) × (goal < length (now ms)) ⌝ }
+    ensures { λ a. ⌜ a ≡ firstOf (goalsAt (now (ms .entry)) (now (ln .entry)) w (now (base .entry)) (now (names .entry)) goal r) ⌝ }
 {
-    table(
-        ms,
-        ln,
-        w,
-        tw,
-        lw,
-        names,
-        others,
-        r,
-        base,
-        first,
-        second,
-        u,
-        todo,
-        v,
-    );
+    table(ms, ln, w, tw, lw, names, r, base, first, second, u, todo, v);
     goal_type(ms, ln, w, tw, goal, first)
 }
 
@@ -106,7 +88,6 @@ pub fn judge(
     tw: &[u64],
     lw: &[u64],
     names: &[u8],
-    others: &[u8],
     base: &[u64],
     goal: usize,
     namings: u64,
@@ -118,8 +99,8 @@ pub fn judge(
 ) -> Verdict
     requires { ⌜ Ready (now ms) (now ln) w (now tw) (now lw) ⌝ }
     requires { ⌜ Room w (now first) (now second) (now u) (now todo) (now v) ⌝ }
-    requires { ⌜ Places (now names) (now others) × ((w ≤ length (now base)) × (goal < length (now ms))) ⌝ }
-    ensures { λ r. ⌜ Judged (goalsAt (now (ms .entry)) (now (ln .entry)) w (now (base .entry)) (now (names .entry)) (now (others .entry)) goal) namings r ⌝ }
+    requires { ⌜ Places w (now ln) (now names) (now base) × (goal < length (now ms)) ⌝ }
+    ensures { λ r. ⌜ Judged (goalsAt (now (ms .entry)) (now (ln .entry)) w (now (base .entry)) (now (names .entry)) goal) namings r ⌝ }
 {
     let mut n = naming::first(namings);
     while n.number < n.count {
@@ -131,7 +112,6 @@ pub fn judge(
             tw,
             lw,
             names,
-            others,
             base,
             goal,
             r,

@@ -68,11 +68,11 @@ module _ {goals : ℕ → List ℕ} where
 
 -- ---- the line of a naming whose table is filled
 
-pub counted : (ms ln : List ℕ) (w : ℕ) (base names others newline : List ℕ) (r : ℕ) {a b a′ b′ : List ℕ} {c : Counts}
-    → Tabled (startList w base names others r) (Survivors ms ln (startList w base names others r)) (Rounds ms ln (startList w base names others r)) w a b a′ b′ c
-    → namingLine r (c .start) (c .left) (c .rounds) newline ≡ rowAt ms ln w base names others newline r
+pub counted : (ms ln : List ℕ) (w : ℕ) (base names newline : List ℕ) (r : ℕ) {a b a′ b′ : List ℕ} {c : Counts}
+    → Tabled (startList w base names (length ln) r) (Survivors ms ln (startList w base names (length ln) r)) (Rounds ms ln (startList w base names (length ln) r)) w a b a′ b′ c
+    → namingLine r (c .start) (c .left) (c .rounds) newline ≡ rowAt ms ln w base names newline r
 unfolding rowAt
-counted ms ln w base names others newline r t = cc
+counted ms ln w base names newline r t = cc
 
 -- ---- the loop: the namings from `start` up to n are in the buffer and judged, and the stores keep their lengths
 

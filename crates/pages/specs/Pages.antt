@@ -12,9 +12,9 @@ use Rattle.lines.specs.Lines.{joined, namingLine}
 use Rattle.pages.specs.declared.Page.{Page}
 
 -- the line of naming r, from what its table is filled with
-unfoldable pub rowAt : List ℕ → List ℕ → ℕ → List ℕ → List ℕ → List ℕ → List ℕ → ℕ → List ℕ
-rowAt ms ln w base names others newline r =
-    namingLine r (length (startList w base names others r)) (length (Survivors ms ln (startList w base names others r))) (Rounds ms ln (startList w base names others r)) newline
+unfoldable pub rowAt : List ℕ → List ℕ → ℕ → List ℕ → List ℕ → List ℕ → ℕ → List ℕ
+rowAt ms ln w base names newline r =
+    namingLine r (length (startList w base names (length ln) r)) (length (Survivors ms ln (startList w base names (length ln) r))) (Rounds ms ln (startList w base names (length ln) r)) newline
 
 -- the lines of namings a up to b, one after the other
 abbrev pub rows : (ℕ → List ℕ) → ℕ → ℕ → List ℕ

@@ -42,7 +42,6 @@ pub fn fill_page(
     tw: &[u64],
     lw: &[u64],
     names: &[u8],
-    others: &[u8],
     base: &[u64],
     goal: usize,
     start: Naming,
@@ -52,10 +51,10 @@ pub fn fill_page(
     newline: &[u8],
 ) -> Page
     requires { ⌜ Ready (now ms) (now ln) w (now tw) (now lw) ⌝ }
-    requires { ⌜ Places (now names) (now others) × ((w ≤ 4) × ((w ≤ length (now base)) × (goal < length (now ms)))) ⌝ }
-    requires { ⌜ Judged (goalsAt (now ms) (now ln) w (now base) (now names) (now others) goal) (start .number) before ⌝ }
+    requires { ⌜ Places w (now ln) (now names) (now base) × ((w ≤ 4) × (goal < length (now ms))) ⌝ }
+    requires { ⌜ Judged (goalsAt (now ms) (now ln) w (now base) (now names) goal) (start .number) before ⌝ }
     requires { ⌜ (start .number ≤ start .count) × ((used + 256 ≤ length (now out)) × (length (now newline) ≤ 16)) ⌝ }
-    ensures { λ p. ⌜ Paged (rowAt (now (ms .entry)) (now (ln .entry)) w (now (base .entry)) (now (names .entry)) (now (others .entry)) (now (newline .entry))) (goalsAt (now (ms .entry)) (now (ln .entry)) w (now (base .entry)) (now (names .entry)) (now (others .entry)) goal) start used (now (out .entry)) (now (out .exit)) p ⌝ }
+    ensures { λ p. ⌜ Paged (rowAt (now (ms .entry)) (now (ln .entry)) w (now (base .entry)) (now (names .entry)) (now (newline .entry))) (goalsAt (now (ms .entry)) (now (ln .entry)) w (now (base .entry)) (now (names .entry)) goal) start used (now (out .entry)) (now (out .exit)) p ⌝ }
 {
     let mut first = [0u64; 4];
     let mut second = [0u64; 4];
@@ -64,19 +63,7 @@ pub fn fill_page(
     let mut n = start;
     while n.number < n.count {
         let r = n.number;
-        let c = judge::fill_table(
-            ms,
-            ln,
-            w,
-            tw,
-            lw,
-            names,
-            others,
-            base,
-            r,
-            &mut first,
-            &mut second,
-        );
+        let c = judge::fill_table(ms, ln, w, tw, lw, names, base, r, &mut first, &mut second);
         k = lines::put_naming(out, k, r, c, newline);
         let found = goal::goal_type(ms, ln, w, tw, goal, &first);
         v = later(v, r, found);

@@ -18,7 +18,7 @@ use Rattle.ctl.specs.Positive.{positive}
 use Rattle.ctl.specs.Sorting.{Unique, more}
 use Rattle.ctl.specs.Closure.{closure}
 use Rattle.ctl.specs.Lean.{isLetter, isNext, withValues, lean}
-use Rattle.ctl.specs.Tableau.{Tableau, tableauOf, namePlaces, otherPlaces, valuePlaces}
+use Rattle.ctl.specs.Tableau.{Tableau, tableauOf, namePlaces, valuePlaces}
 use Rattle.ctl.specs.Demand3.{sheetTableau}
 use Rattle.ctl.proofs.BoolLaws.{and-make, or-1, T-true}
 use Rattle.ctl.proofs.ListLaws.{getD-in}
@@ -205,7 +205,7 @@ module _ (s : List ℕ) (r : Reading) (x : Says s r) where
     unfolding sheetTableau tableauOf
     tableau-globals = refl
 
-    pub matches : (globals : List ℕ) → map (form ms) globals ≡ map positive (globalsOf (formulas s)) → Matches S ms ln globals (namePlaces S) (otherPlaces S) (valuePlaces S)
+    pub matches : (globals : List ℕ) → map (form ms) globals ≡ map positive (globalsOf (formulas s)) → Matches S ms ln globals (namePlaces S) (valuePlaces S)
     unfolding leanForms
     matches globals e = record {
       closure-in = λ p m. x .tabled .has p (with-in (R.members s) (valuesIn s) (subst (λ l. p ∈ l) tableau-closure m));
@@ -213,7 +213,6 @@ module _ (s : List ℕ) (r : Reading) (x : Says s r) where
       lean = tableau-lean ∙ sym lean-forms;
       globals-are = tableau-globals ∙ sym e;
       names-are = refl;
-      others-are = refl;
       values-are = refl;
       values-none = places-none S (proper s);
     }

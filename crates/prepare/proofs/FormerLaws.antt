@@ -10,7 +10,7 @@ use Rattle.ctl.specs.Formula.{Form}
 use Rattle.ctl.specs.Positive.{positive}
 use Rattle.ctl.specs.Closure.{closure}
 use Rattle.ctl.specs.Lean.{withValues, lean}
-use Rattle.ctl.specs.Tableau.{tableauOf, namings}
+use Rattle.ctl.specs.Tableau.{tableauOf, namings, obeys}
 use Rattle.ctl.specs.Judging.{formerStart, JudgedFrom}
 use Rattle.ctl.specs.Demand3.{sheetTableau}
 use Rattle.ctl.proofs.Unchanged.{tableau-without, without-values}
@@ -74,7 +74,7 @@ module _ (s : List ℕ) (none : WithoutValues s) where
   values-before = no-values s none
 
   -- its start types are those that obey the naming and make all globals true, and everything else comes from these
-  pub judged-before : JudgedFrom (tableauIn s) (formerStart (tableauIn s)) (namings (tableauIn s))
+  pub judged-before : JudgedFrom (tableauIn s) (formerStart (tableauIn s) (obeys (tableauIn s))) (namings (tableauIn s))
   judged-before = without-values (tableauIn s) values-before
 
 -- ---- with symbols of single letters

@@ -11,7 +11,7 @@ use borrow.Author.Tests.{ltb-true}
 use Rattle.ctl.specs.Lists.{_∈_, below, keep}
 use Rattle.ctl.specs.Formula.{Form, tru, lit}
 use Rattle.ctl.specs.Equality.{tag, num}
-use Rattle.ctl.specs.Tableau.{Tableau, isName, isValue, namePlaces, otherPlaces, valuePlaces, tableauOf}
+use Rattle.ctl.specs.Tableau.{Tableau, isName, isValue, namePlaces, valuePlaces, tableauOf}
 use Rattle.ctl.specs.Positive.{positive}
 use Rattle.ctl.specs.Demand3.{sheetTableau}
 use Rattle.ctl.proofs.BoolLaws.{and-0, and-1, and-both}
@@ -102,11 +102,7 @@ module _ (s : List ℕ) where
       let f = kinds-two s in
       omega arith
 
-  -- how many there are of each, and each is below the lean's width
-  pub others-few : length (otherPlaces S) ≤ length (S .ln)
-  unfolding otherPlaces
-  others-few = kept-few (λ i. not (isName S (getD (S .ln) i tru))) (length (S .ln))
-
+  -- how many values there are, and each place is below the lean's width
   pub values-few : length (valuePlaces S) ≤ length (S .ln)
   unfolding valuePlaces
   values-few = kept-few (λ i. isValue S (getD (S .ln) i tru)) (length (S .ln))
@@ -114,10 +110,6 @@ module _ (s : List ℕ) where
   pub name-below : (k : ℕ) → k ∈ namePlaces S → k < length (S .ln)
   unfolding namePlaces
   name-below k m = kept-below (λ i. isName S (getD (S .ln) i tru)) (length (S .ln)) k .0 m .0
-
-  pub other-below : (k : ℕ) → k ∈ otherPlaces S → k < length (S .ln)
-  unfolding otherPlaces
-  other-below k m = kept-below (λ i. not (isName S (getD (S .ln) i tru))) (length (S .ln)) k .0 m .0
 
   pub value-below : (k : ℕ) → k ∈ valuePlaces S → k < length (S .ln)
   unfolding valuePlaces

@@ -1,6 +1,6 @@
--- The lean of a sheet that was read: the places of names, of others and of values that `kind_places` finds are the tableau's. Assumes nothing.
+-- The lean of a sheet that was read: the places of names and of values that `kind_places` finds are the tableau's. Assumes nothing.
 use mathlib.Core.Path.{_≡_, refl, sym, ap, ap₂, _∙_, subst}
-use mathlib.Core.Bool.{Bool, true, false, cond, not, _&&_}
+use mathlib.Core.Bool.{Bool, _&&_}
 use mathlib.Core.List.{List, map}
 use Prim.Native.Nat.{ℕ, _≤_, _<_}
 use native.Mathlib.Omega.{arith}
@@ -11,7 +11,7 @@ use Rattle.ctl.specs.Formula.{Form, tru}
 use Rattle.ctl.specs.Equality.{tag, num}
 use Rattle.ctl.specs.Positive.{positive}
 use Rattle.ctl.specs.Lean.{isLetter}
-use Rattle.ctl.specs.Tableau.{Tableau, isName, isValue, namePlaces, otherPlaces, valuePlaces, tableauOf}
+use Rattle.ctl.specs.Tableau.{Tableau, isName, isValue, namePlaces, valuePlaces, tableauOf}
 use Rattle.ctl.specs.Demand3.{sheetTableau}
 use Rattle.ctl.proofs.BoolLaws.{both-ways}
 use Rattle.ctl.proofs.ListLaws.{below-out, elem-in, elem-out, keep-same, kept-below}
@@ -71,30 +71,23 @@ module _ (s : List ℕ) (r : Reading) (x : Says s r) where
     lean-many = lean-length s r x ∙ x .lean-many ∙ ap length (sym (tableau-lean s r x z))
 
     -- the places found are those of the lean whose formulas pass the test
-    places-are : (on : Bool) (q : ℕ) (P : Form → Bool) → ((p : Form) → P p ≡ (isLetter p && eqb (getD (kinds s) (num p) 0) q))
-        → placesBy on q ms ln ks ≡ keep (λ i. cond on (P (getD (S .ln) i tru)) (not (P (getD (S .ln) i tru)))) (below (length (S .ln)))
+    places-are : (q : ℕ) (P : Form → Bool) → ((p : Form) → P p ≡ (isLetter p && eqb (getD (kinds s) (num p) 0) q)) → placesBy q ms ln ks ≡ keep (λ i. P (getD (S .ln) i tru)) (below (length (S .ln)))
     unfolding placesBy kindAt
-    places-are on q P f =
-        keep-same (kindAt on q ms ln ks) (λ i. cond on (P (getD (S .ln) i tru)) (not (P (getD (S .ln) i tru)))) (below (length ln))
-        (λ k m. ap (λ b. cond on b (not b)) (kind-form q k (below-out (length ln) m) ∙ sym (f (getD (S .ln) k tru))))
-        ∙ ap (λ n. keep (λ i. cond on (P (getD (S .ln) i tru)) (not (P (getD (S .ln) i tru)))) (below n)) lean-many
+    places-are q P f =
+        keep-same (kindAt q ms ln ks) (λ i. P (getD (S .ln) i tru)) (below (length ln)) (λ k m. kind-form q k (below-out (length ln) m) ∙ sym (f (getD (S .ln) k tru)))
+        ∙ ap (λ n. keep (λ i. P (getD (S .ln) i tru)) (below n)) lean-many
 
-    pub names-are : placesBy true 2 ms ln ks ≡ namePlaces S
+    pub names-are : placesBy 2 ms ln ks ≡ namePlaces S
     unfolding namePlaces
-    names-are = places-are true 2 (isName S) name-form
+    names-are = places-are 2 (isName S) name-form
 
-    pub others-are : placesBy false 2 ms ln ks ≡ otherPlaces S
-    unfolding otherPlaces
-    others-are = places-are false 2 (isName S) name-form
-
-    pub values-are : placesBy true 4 ms ln ks ≡ valuePlaces S
+    pub values-are : placesBy 4 ms ln ks ≡ valuePlaces S
     unfolding valuePlaces
-    values-are = places-are true 4 (isValue S) value-form
+    values-are = places-are 4 (isValue S) value-form
 
     -- lists of these places, with the sheet's globals, match the tableau
-    pub found-matches : {names others values : List ℕ} → names ≡ placesBy true 2 ms ln ks → others ≡ placesBy false 2 ms ln ks → values ≡ placesBy true 4 ms ln ks → (globals : List ℕ)
-        → map (form ms) globals ≡ map positive (globalsOf (formulas s)) → Matches S ms ln globals names others values
-    found-matches {names} {others} {values} a b c globals e =
-        subst (λ l. Matches S ms ln globals l others values) (sym (a ∙ names-are))
-        (subst (λ l. Matches S ms ln globals (namePlaces S) l values) (sym (b ∙ others-are))
-        (subst (λ l. Matches S ms ln globals (namePlaces S) (otherPlaces S) l) (sym (c ∙ values-are)) (matches s r x z globals e)))
+    pub found-matches : {names values : List ℕ} → names ≡ placesBy 2 ms ln ks → values ≡ placesBy 4 ms ln ks → (globals : List ℕ)
+        → map (form ms) globals ≡ map positive (globalsOf (formulas s)) → Matches S ms ln globals names values
+    found-matches {names} {values} a b globals e =
+        subst (λ l. Matches S ms ln globals l values) (sym (a ∙ names-are))
+        (subst (λ l. Matches S ms ln globals (namePlaces S) l) (sym (b ∙ values-are)) (matches s r x z globals e))

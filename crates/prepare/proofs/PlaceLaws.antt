@@ -58,13 +58,13 @@ module _ {P : ℕ → Bool} {d₀ : List ℕ} {most : ℕ} where
 
 -- ---- at the end
 
-module _ (on : Bool) (q : ℕ) (ms ln kinds : List ℕ) {store store′ : List ℕ} {k n : ℕ} where
-  pub parted-done : Parted (kindAt on q ms ln kinds) store (length ln) k store′ n → length ln ≤ k → Found (placesBy on q ms ln kinds) store store′ n
+module _ (q : ℕ) (ms ln kinds : List ℕ) {store store′ : List ℕ} {k n : ℕ} where
+  pub parted-done : Parted (kindAt q ms ln kinds) store (length ln) k store′ n → length ln ≤ k → Found (placesBy q ms ln kinds) store store′ n
   unfolding placesBy
   parted-done x h =
       let w = x .within in
       let e : k ≡ length ln = omega arith in
-      record { many = x .many ∙ ap (λ i. length (keep (kindAt on q ms ln kinds) (below i))) e; are = x .are ∙ ap (λ i. keep (kindAt on q ms ln kinds) (below i) ++ drop n store) e }
+      record { many = x .many ∙ ap (λ i. length (keep (kindAt q ms ln kinds) (below i))) e; are = x .are ∙ ap (λ i. keep (kindAt q ms ln kinds) (below i) ++ drop n store) e }
 
 pub held : {places store store′ : List ℕ} {n : ℕ} → Found places store store′ n → take n store′ ≡ places
 held {places} {store} {store′} {n} y = ap (take n) (y .are) ∙ take-at places (drop n store) n (sym (y .many))

@@ -1,6 +1,6 @@
 -- The lean's places by the kind of their symbols. Assumes nothing.
 use mathlib.Core.Path.{_≡_}
-use mathlib.Core.Bool.{Bool, cond, not, _&&_}
+use mathlib.Core.Bool.{Bool, _&&_}
 use mathlib.Core.List.{List, _++_}
 use Prim.Native.Nat.{ℕ, _≤_, _<_}
 use lib.ListN.{length, getD, drop}
@@ -12,15 +12,15 @@ use Rattle.members.specs.Members.{argW, tagW}
 unfoldable pub kindWord : List ℕ → ℕ → ℕ → Bool
 kindWord kinds q x = eqb (tagW x) 2 && eqb (getD kinds (argW x) 0) q
 
--- lean place k is such a symbol (on), or is none
-unfoldable pub kindAt : Bool → ℕ → List ℕ → List ℕ → List ℕ → ℕ → Bool
+-- lean place k is such a symbol
+unfoldable pub kindAt : ℕ → List ℕ → List ℕ → List ℕ → ℕ → Bool
 unfolding kindWord
-kindAt on q ms ln kinds k = let is = kindWord kinds q (getD ms (getD ln k 0) 0) in cond on is (not is)
+kindAt q ms ln kinds k = kindWord kinds q (getD ms (getD ln k 0) 0)
 
--- the places that are such symbols (on), or those that are none
-unfoldable pub placesBy : Bool → ℕ → List ℕ → List ℕ → List ℕ → List ℕ
+-- the places that are such symbols
+unfoldable pub placesBy : ℕ → List ℕ → List ℕ → List ℕ → List ℕ
 unfolding kindAt
-placesBy on q ms ln kinds = keep (kindAt on q ms ln kinds) (below (length ln))
+placesBy q ms ln kinds = keep (kindAt q ms ln kinds) (below (length ln))
 
 -- what finding them asks
 pub record Sought (ms ln store : List ℕ) : Type 0 where

@@ -1,6 +1,6 @@
-// What the tableau needs besides the reader's answer: which of the lean's places are names, values and others, and how many words hold its types.
+// What the tableau needs besides the reader's answer: which of the lean's places are names and values, and how many words hold its types.
 ghost use mathlib.Core.Path.{_≡_};
-ghost use mathlib.Core.Bool.{cond, not};
+ghost use mathlib.Core.Bool.{cond};
 ghost use Prim.Native.Nat.{_+_, _≤_, _<_};
 ghost use lib.ListN.{length, set};
 ghost use Rattle.prepare.specs.Places.{kindWord, placesBy, Sought, Found};
@@ -21,13 +21,6 @@ fn is_kind(x: u64, kinds: &[u8], kind: u8) -> bool
     false
 }
 
-// Whether a test came out as asked.
-fn agrees(is: bool, on: bool) -> bool
-    ensures { λ r. ⌜ r ≡ cond on is (not is) ⌝ }
-{
-    if on { is } else { !is }
-}
-
 // x at place n if on is true; the place after.
 fn put_if(store: &mut [u8], n: usize, x: u8, on: bool) -> usize
     requires { ⌜ n < length (now store) ⌝ }
@@ -40,23 +33,16 @@ fn put_if(store: &mut [u8], n: usize, x: u8, on: bool) -> usize
     n
 }
 
-// The lean's places that are symbols of a kind, or those that are not where `on` is false, ascending, at the beginning of a store; how many they are.
-pub fn kind_places(
-    ms: &[u64],
-    ln: &[u8],
-    kinds: &[u8],
-    kind: u8,
-    on: bool,
-    store: &mut [u8],
-) -> usize
+// The lean's places that are symbols of a kind, ascending, at the beginning of a store; how many they are.
+pub fn kind_places(ms: &[u64], ln: &[u8], kinds: &[u8], kind: u8, store: &mut [u8]) -> usize
     requires { ⌜ (0 < kind) × Sought (now ms) (now ln) (now store) ⌝ }
-    ensures { λ n. ⌜ Found (placesBy on kind (now (ms .entry)) (now (ln .entry)) (now (kinds .entry))) (now (store .entry)) (now (store .exit)) n ⌝ }
+    ensures { λ n. ⌜ Found (placesBy kind (now (ms .entry)) (now (ln .entry)) (now (kinds .entry))) (now (store .entry)) (now (store .exit)) n ⌝ }
 {
     let mut n: usize = 0;
     let mut k: usize = 0;
     while k < ln.len() {
         let is = is_kind(ms[ln[k] as usize], kinds, kind);
-        n = put_if(store, n, k as u8, agrees(is, on));
+        n = put_if(store, n, k as u8, is);
         k += 1;
     }
     n

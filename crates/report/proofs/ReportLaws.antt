@@ -4,12 +4,11 @@ use mathlib.Core.List.{List}
 use Prim.Native.Nat.{ℕ, _≤_, _<_}
 use native.Mathlib.Omega.{arith}
 use lib.ListN.{length}
-use Rattle.wordset.specs.Words.{packed}
 use Rattle.tableau.specs.Families.{Ready}
-use Rattle.start.specs.Starts.{inBase}
+use Rattle.start.specs.Starts.{Based, inBase}
 use Rattle.tableau.proofs.TableauLaws.{rounds-of, start-types, surviving-types}
 use Rattle.judge.specs.Judged.{Places}
-use Rattle.frame.specs.SetUp.{Accepts, SetUp, globalsIn, leanIn, membersIn, namesIn, othersIn, valuesIn}
+use Rattle.frame.specs.SetUp.{Accepts, SetUp, globalsIn, leanIn, membersIn, namesIn, valuesIn}
 use Rattle.frame.specs.declared.Setup.{Setup}
 use Rattle.frame.proofs.VerdictLaws.{framed-verdict}
 use Rattle.fitted.specs.Accepted.{verdictIn}
@@ -21,22 +20,19 @@ module _ {s : List ℕ} {u : Setup} (x : SetUp s u) (e : u .refusal ≡ 0) where
   pub accepted : Accepts s u
   accepted = x .accepts (sym (x .is) ∙ e)
 
-  module _ (newline base₀ : List ℕ) {tw lw base : List ℕ} (f : Ready (membersIn u) (leanIn u) (u .words) tw lw × (base ≡ packed (u .words) (inBase (membersIn u) (leanIn u) (globalsIn u) (valuesIn u)) base₀)) (l₀ : length base₀ ≡ 4) where
-    enough : u .words ≤ length base₀
-    enough = let w = accepted .framed .few-words .1 in omega arith
-
+  module _ (newline : List ℕ) {tw lw base : List ℕ} (f : Ready (membersIn u) (leanIn u) (u .words) tw lw × Based (u .words) (inBase (membersIn u) (leanIn u) (globalsIn u) (valuesIn u)) (namesIn u) base) where
     -- a naming's line from its table is the sheet's
-    line-is : (r : ℕ) → rowAt (membersIn u) (leanIn u) (u .words) base (namesIn u) (othersIn u) newline r ≡ namingOf s newline r
+    line-is : (r : ℕ) → rowAt (membersIn u) (leanIn u) (u .words) base (namesIn u) newline r ≡ namingOf s newline r
     unfolding rowAt namingOf
     line-is r =
         let m = accepted .framed .matches in
         let t = accepted .framed .enough in
-        let a = start-types m (u .words) base₀ base enough (f .1) t r in
-        let b = surviving-types m (u .words) base₀ base enough (f .1) t r in
-        let c = rounds-of m (u .words) base₀ base enough (f .1) t r in
+        let a = start-types m (u .words) base (f .1) t r in
+        let b = surviving-types m (u .words) base (f .1) t r in
+        let c = rounds-of m (u .words) base (f .1) t r in
         cc
 
-    pub prints : Prints s newline (membersIn u) (leanIn u) (u .words) base (namesIn u) (othersIn u) (u .goal) (u .namings)
+    pub prints : Prints s newline (membersIn u) (leanIn u) (u .words) base (namesIn u) (u .goal) (u .namings)
     unfolding verdictIn
     prints =
         let a = accepted .framed in
@@ -45,11 +41,11 @@ module _ {s : List ℕ} {u : Setup} (x : SetUp s u) (e : u .refusal ≡ 0) where
           line-is = line-is;
           namings-are = a .namings-are;
           few-namings = a .few-namings;
-          verdict-is = λ j. framed-verdict a base₀ enough (f .1) j;
+          verdict-is = λ j. framed-verdict a base (f .1) j;
         }
 
-    pub pages-asked : length base ≡ 4 → Places (namesIn u) (othersIn u) × ((u .words ≤ 4) × ((u .words ≤ length base) × (u .goal < length (membersIn u))))
+    pub pages-asked : length base ≡ 8 → Places (u .words) (leanIn u) (namesIn u) base × ((u .words ≤ 4) × (u .goal < length (membersIn u)))
     pages-asked l =
         let a = accepted .framed in
         let w = a .few-words .1 in
-        (a .places-in, (w, (omega arith, a .goal-inside)))
+        (record { named = a .named; enough = a .enough; base-room = omega arith }, (w, a .goal-inside))

@@ -31,12 +31,12 @@ pub record Printing (s newline : List ℕ) (goals : ℕ → List ℕ) (total : �
   pub out-same : length out ≡ length out₀
   pub room : used + 256 ≤ length out
 
-module _ {s newline ms ln : List ℕ} {w : ℕ} {base names others : List ℕ} {goal total : ℕ} (x : Prints s newline ms ln w base names others goal total) where
+module _ {s newline ms ln : List ℕ} {w : ℕ} {base names : List ℕ} {goal total : ℕ} (x : Prints s newline ms ln w base names goal total) where
   abbrev line : ℕ → List ℕ
-  line = rowAt ms ln w base names others newline
+  line = rowAt ms ln w base names newline
 
   abbrev goals : ℕ → List ℕ
-  goals = goalsAt ms ln w base names others goal
+  goals = goalsAt ms ln w base names goal
 
   pub printing-start : {entry out : List ℕ} {used done : ℕ} {n : Naming} → done ≡ 0 → 512 ≤ length entry → Put 0 (headingLine newline) entry out used × (used ≤ 0 + 128) → length out ≡ length entry → n ≡ startOf total
       → Printing s newline goals total out out done used n Unsatisfiable

@@ -12,9 +12,9 @@ use Rattle.pages.specs.Pages.{rowAt}
 use Rattle.report.specs.Text.{namingOf}
 
 -- what the tables are filled from is that of the sheet, which is not refused
-pub record Prints (s newline ms ln : List ℕ) (w : ℕ) (base names others : List ℕ) (goal n : ℕ) : Type 0 where
+pub record Prints (s newline ms ln : List ℕ) (w : ℕ) (base names : List ℕ) (goal n : ℕ) : Type 0 where
   pub accepted : refusalOf s ≡ 0
-  pub line-is : (r : ℕ) → rowAt ms ln w base names others newline r ≡ namingOf s newline r
+  pub line-is : (r : ℕ) → rowAt ms ln w base names newline r ≡ namingOf s newline r
   pub namings-are : n ≡ Tableau.namings (tableauIn s)
-  pub few-namings : n ≤ 65536
-  pub verdict-is : {v : Verdict} → Judged (goalsAt ms ln w base names others goal) n v → verdictIn s ≡ verdictOf v
+  pub few-namings : n ≤ 16384
+  pub verdict-is : {v : Verdict} → Judged (goalsAt ms ln w base names goal) n v → verdictIn s ≡ verdictOf v

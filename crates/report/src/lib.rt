@@ -35,16 +35,15 @@ fn write_pages(
     tw: &[u64],
     lw: &[u64],
     names: &[u8],
-    others: &[u8],
     base: &[u64],
     goal: usize,
     namings: u64,
     out: &mut [u8],
 )
     requires { ⌜ now done ≡ 0 ⌝ }
-    requires { ⌜ Prints (now sheet) (now newline) (now ms) (now ln) w (now base) (now names) (now others) goal namings ⌝ }
+    requires { ⌜ Prints (now sheet) (now newline) (now ms) (now ln) w (now base) (now names) goal namings ⌝ }
     requires { ⌜ Ready (now ms) (now ln) w (now tw) (now lw) ⌝ }
-    requires { ⌜ Places (now names) (now others) × ((w ≤ 4) × ((w ≤ length (now base)) × (goal < length (now ms)))) ⌝ }
+    requires { ⌜ Places w (now ln) (now names) (now base) × ((w ≤ 4) × (goal < length (now ms))) ⌝ }
     requires { ⌜ (512 ≤ length (now out)) × (length (now newline) ≤ 16) ⌝ }
     ensures { λ _. ⌜ now (done .exit) ≡ length (linesOf (now (sheet .entry)) (now (newline .entry))) ⌝ }
 {
@@ -59,7 +58,6 @@ fn write_pages(
             tw,
             lw,
             names,
-            others,
             base,
             goal,
             n,
@@ -103,9 +101,8 @@ fn report_in(sheet: &[u8], u: Setup, newline: &[u8], done: &mut u64, lw: &mut [u
     let members = u.members;
     let lean = u.lean;
     let named = u.named;
-    let unnamed = u.unnamed;
     let mut tw = [0u64; 288];
-    let mut base = [0u64; 4];
+    let mut base = [0u64; 8];
     frame::fill(u, &mut tw, lw, &mut base);
     let mut out = [0u8; 8192];
     write_pages(
@@ -118,7 +115,6 @@ fn report_in(sheet: &[u8], u: Setup, newline: &[u8], done: &mut u64, lw: &mut [u
         &tw,
         lw,
         &named[..u.names],
-        &unnamed[..u.others],
         &base,
         u.goal,
         u.namings,

@@ -1,1 +1,2 @@
 pub mod StartWords
+pub mod NamedWords

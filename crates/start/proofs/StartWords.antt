@@ -2,25 +2,23 @@
 use mathlib.Core.Path.{_≡_, refl, sym, ap, _∙_, subst}
 use mathlib.Core.Bool.{Bool, true, false, not, _&&_, Bool·beq, _||_, or-true, or-false, and-false}
 use mathlib.Core.List.{List, [], _∷_}
-use Prim.Native.Nat.{ℕ, zero, suc, _+_, _-_, _*_, _/_, _%_, _^_, _≤_, _<_}
+use Prim.Native.Nat.{ℕ, zero, suc, _+_, _-_, _*_, _%_, _^_, _≤_, _<_}
 use native.Mathlib.Nat.{add-zero}
 use native.Mathlib.Numerals.{add-one}
 use native.Mathlib.Omega.{arith}
 use lib.Bits.{bitAnd, bitOr}
 use lib.Dec.{eqb, ltb}
 use lib.ListN.{length, getD}
-use lib.Pow.{pow-add, pow-mono, pow-pos}
+use lib.Pow.{pow-add, pow-mono}
 use borrow.Author.Tests.{lt-ltb, le-ltb, eq-eqb, ne-eqb}
-use Rattle.ctl.specs.Lists.{imp}
 use Rattle.ctl.specs.Types.{inType}
 use Rattle.wordset.proofs.BitLaws.{shl-one}
 use Rattle.wordset.specs.Below.{allBelow, countBelow, one}
 use Rattle.wordset.specs.Word.{bit}
 use Rattle.wordset.specs.Answers.{Answers}
 use Rattle.wordset.proofs.AnswersLaws.{and-answers, or-answers, minus-answers}
-use Rattle.start.specs.Starts.{fitsSet, hasOne, nameSet, placeFits}
-use Rattle.truth.proofs.TestLaws.{same-false, same-true, to-or}
-use Rattle.truth.proofs.BlockLaws.{word-as, word-full, word-none, word-not}
+use Rattle.start.specs.Starts.{hasOne}
+use Rattle.truth.proofs.BlockLaws.{word-as, word-full, word-none}
 use Rattle.truth.proofs.PlaceWords.{computed}
 
 -- ---- the types below 2 ^ n
@@ -110,32 +108,3 @@ module _ (values : List ℕ) {k : ℕ} where
 
   pub one-of : {i x y : ℕ} → (length values ≡ 0 → ⊥) → Counted (λ j t. inType t (getD values j 0)) (length values) i k x y → length values ≤ i → Answers (hasOne values) k (bitAnd x ((2 ^ 64 - 1) - y))
   one-of f c h = one-by (ne-eqb (length values) 0 f) (counted-end c h)
-
--- ---- places that fit
-
-module _ (others : List ℕ) (d q k x : ℕ) where
-  pub fit-yes : eqb (d / 2 ^ q % 2) 1 ≡ true → Answers (λ t. inType t (getD others q 0)) k x → Answers (λ t. placeFits others d t q) k x
-  fit-yes e f = word-as (λ t. sym (ap (λ b. Bool·beq b (inType t (getD others q 0))) e ∙ same-true (inType t (getD others q 0)))) f
-
-  pub fit-no : eqb (d / 2 ^ q % 2) 1 ≡ false → Answers (λ t. inType t (getD others q 0)) k x → Answers (λ t. placeFits others d t q) k ((2 ^ 64 - 1) - x)
-  fit-no e f = word-as (λ t. sym (ap (λ b. Bool·beq b (inType t (getD others q 0))) e ∙ same-false (inType t (getD others q 0)))) (word-not f)
-
--- ---- one name
-
-pub small-shift : (n i : ℕ) → n ≤ 30 → i < 2 → n * i ≤ 30
-small-shift n zero h l = omega arith
-small-shift n (suc zero) h l = omega arith
-small-shift n (suc (suc i)) h l = absurd (omega arith)
-
-pub mask-is : (n : ℕ) → n ≤ 30 → (1 * 2 ^ n) % 2 ^ 64 ≡ 2 ^ n
-mask-is n h = shl-one n (omega arith)
-
-pub mask-pos : (n : ℕ) → n ≤ 30 → 0 < (1 * 2 ^ n) % 2 ^ 64
-mask-pos n h = let e = mask-is n h in let p = pow-pos n in omega arith
-
-module _ (names others : List ℕ) (r i k : ℕ) (h : length others ≤ 30) where
-  pub name-word : (p s : ℕ) → Answers (λ t. inType t (getD names i 0)) k p → Answers (fitsSet others (r / 2 ^ (length others * i) % ((1 * 2 ^ length others) % 2 ^ 64))) k s
-      → Answers (λ t. imp (inType t (getD names i 0)) (fitsSet others (nameSet others r i) t)) k (bitOr ((2 ^ 64 - 1) - p) s)
-  name-word p s f g =
-      word-as (λ t. ap (λ m. not (inType t (getD names i 0)) || fitsSet others (r / 2 ^ (length others * i) % m) t) (mask-is (length others) h)
-      ∙ sym (to-or (inType t (getD names i 0)) (fitsSet others (nameSet others r i) t))) (or-answers (word-not f) g)

@@ -1,14 +1,15 @@
-// The start types, by words: those that hold one value and make the globals true, once for all namings, and of them those that obey a naming. Assumes nothing.
+// The start types, by words. Once for all namings: the types that hold one value and make the globals true, those without a name apart from those with one. Then for each
+// naming: those without a name, and for each name the one type that the naming leaves to it. Assumes nothing.
 use truth::place_word;
 ghost use mathlib.Core.Path.{_≡_};
-ghost use mathlib.Core.Bool.{_&&_};
-ghost use Prim.Native.Nat.{ℕ, _^_, _≤_, _<_};
-ghost use lib.Dec.{ltb};
+ghost use mathlib.Core.Bool.{_&&_, _||_};
+ghost use Prim.Native.Nat.{ℕ, _+_, _*_, _^_, _≤_, _<_};
+ghost use lib.Dec.{eqb, ltb};
 ghost use lib.ListN.{length, getD};
 ghost use Rattle.wordset.specs.Words.{member, packed};
 ghost use Rattle.wordset.specs.Answers.{Answers};
 ghost use Rattle.truth.specs.Truths.{Truths};
-ghost use Rattle.start.specs.Starts.{fitsSet, hasOne, inBase, obeysBy, placeFits};
+ghost use Rattle.start.specs.Starts.{Based, hasNone, hasOne, fitsName, inBase, Named, namedType, obeysBy, startsBy};
 
 const ALL: u64 = 0xFFFF_FFFF_FFFF_FFFF;
 
@@ -78,7 +79,21 @@ fn base_word(
     low_word(ln.len(), k) & (one_word(values, k) & acc)
 }
 
-// The first w words of base become those types.
+// Answers k of the types that have none of some places.
+fn free_word(names: &[u8], k: usize) -> u64
+    requires { ⌜ ((i : ℕ) → i < length (now names) → getD (now names) i 0 ≤ 60) ⌝ }
+    ensures { λ r. ⌜ Answers (hasNone (now (names .entry))) k r ⌝ }
+{
+    let mut acc: u64 = ALL;
+    let mut i = 0;
+    while i < names.len() {
+        acc = acc & !place_word(names[i] as usize, k);
+        i += 1;
+    }
+    acc
+}
+
+// The first w words of base become those types of `base_word` that have no name, the next w words those that have one.
 pub fn base_words(
     ms: &[u64],
     ln: &[u8],
@@ -86,77 +101,86 @@ pub fn base_words(
     w: usize,
     globals: &[u8],
     values: &[u8],
+    names: &[u8],
     base: &mut [u64],
 )
     requires { ⌜ Truths (now ms) (now ln) w (now tw) ⌝ }
-    requires { ⌜ (w ≤ length (now base)) × (length (now ln) ≤ 60) ⌝ }
+    requires { ⌜ w + w ≤ length (now base) ⌝ }
     requires { ⌜ ((i : ℕ) → i < length (now globals) → getD (now globals) i 0 < length (now ms)) ⌝ }
     requires { ⌜ ((i : ℕ) → i < length (now values) → getD (now values) i 0 ≤ 60) ⌝ }
-    ensures { λ _. ⌜ now (base .exit) ≡ packed w (inBase (now (ms .entry)) (now (ln .entry)) (now (globals .entry)) (now (values .entry))) (now (base .entry)) ⌝ }
+    requires { ⌜ Named (now names) (length (now ln)) ⌝ }
+    ensures { λ _. ⌜ Based w (inBase (now (ms .entry)) (now (ln .entry)) (now (globals .entry)) (now (values .entry))) (now (names .entry)) (now (base .exit)) ⌝ }
 {
     let mut k = 0;
     while k < w {
-        base[k] = base_word(ms, ln, tw, w, globals, values, k);
+        let all = base_word(ms, ln, tw, w, globals, values, k);
+        let free = free_word(names, k);
+        base[k] = all & free;
+        base[w + k] = all & !free;
         k += 1;
     }
 }
 
-// Answers k of the types whose place q among the others is bit q of the set d.
-fn fit_word(others: &[u8], d: u64, q: usize, k: usize) -> u64
-    requires { ⌜ (q < length (now others)) × (q < 64) ⌝ }
-    requires { ⌜ ((i : ℕ) → i < length (now others) → getD (now others) i 0 ≤ 60) ⌝ }
-    ensures { λ r. ⌜ Answers (λ t. placeFits (now (others .entry)) d t q) k r ⌝ }
+// The one type that has name i, at place v of n, under naming r: the name's set, with the name's place put in.
+fn named_type(v: usize, n: usize, r: u64, i: usize) -> usize
+    requires { ⌜ (v < n) × ((n ≤ 31) × (i < 2)) ⌝ }
+    ensures { λ t. ⌜ t ≡ namedType v n r i ⌝ }
 {
-    let p = place_word(others[q] as usize, k);
-    if (d >> q) & 1 == 1 {
-        return p;
-    }
-    !p
+    let c = n - 1;
+    let d = (r >> (c * i)) % (1 << c);
+    let high = ((d >> v) * 2 + 1) << v;
+    (high + d % (1 << v)) as usize
 }
 
-// Answers k of the types whose other places are the set d.
-fn set_word(others: &[u8], d: u64, k: usize) -> u64
-    requires { ⌜ length (now others) ≤ 30 ⌝ }
-    requires { ⌜ ((i : ℕ) → i < length (now others) → getD (now others) i 0 ≤ 60) ⌝ }
-    ensures { λ r. ⌜ Answers (fitsSet (now (others .entry)) d) k r ⌝ }
+// Whether a type obeys naming r as to name i, at place v of n: if it has the name, it is the name's type.
+fn fits_name(v: usize, n: usize, r: u64, i: usize, t: usize) -> bool
+    requires { ⌜ (v < n) × ((n ≤ 31) × (i < 2)) ⌝ }
+    ensures { λ a. ⌜ a ≡ fitsName v n r i t ⌝ }
 {
-    let mut acc: u64 = ALL;
-    let mut q = 0;
-    while q < others.len() {
-        acc = acc & fit_word(others, d, q, k);
-        q += 1;
+    if (t >> v) & 1 == 1 {
+        return t == named_type(v, n, r, i);
     }
-    acc
+    true
 }
 
-// Answers k of the types that obey naming r.
-fn naming_word(names: &[u8], others: &[u8], r: u64, k: usize) -> u64
-    requires { ⌜ (length (now others) ≤ 30) × (length (now names) ≤ 2) ⌝ }
-    requires { ⌜ ((i : ℕ) → i < length (now others) → getD (now others) i 0 ≤ 60) ⌝ }
-    requires { ⌜ ((i : ℕ) → i < length (now names) → getD (now names) i 0 ≤ 60) ⌝ }
-    ensures { λ s. ⌜ Answers (obeysBy (now (names .entry)) (now (others .entry)) r) k s ⌝ }
+// Whether a type obeys naming r.
+fn obeys(names: &[u8], n: usize, r: u64, t: usize) -> bool
+    requires { ⌜ Named (now names) n ⌝ }
+    ensures { λ a. ⌜ a ≡ obeysBy (now (names .entry)) n r t ⌝ }
 {
-    let n = others.len();
-    let mut acc: u64 = ALL;
     let mut i = 0;
     while i < names.len() {
-        let d = (r >> (n * i)) % (1 << n);
-        acc = acc & (!place_word(names[i] as usize, k) | set_word(others, d, k));
+        if !fits_name(names[i] as usize, n, r, i, t) {
+            return false;
+        }
         i += 1;
     }
-    acc
+    true
 }
 
-// The first w words of dst become the start types of naming r.
-pub fn start_words(names: &[u8], others: &[u8], r: u64, w: usize, base: &[u64], dst: &mut [u64])
-    requires { ⌜ (length (now others) ≤ 30) × (length (now names) ≤ 2) × (w ≤ length (now base)) × (w ≤ length (now dst)) ⌝ }
-    requires { ⌜ ((i : ℕ) → i < length (now others) → getD (now others) i 0 ≤ 60) ⌝ }
-    requires { ⌜ ((i : ℕ) → i < length (now names) → getD (now names) i 0 ≤ 60) ⌝ }
-    ensures { λ _. ⌜ now (dst .exit) ≡ packed w (λ t. member (now (base .entry)) t && obeysBy (now (names .entry)) (now (others .entry)) r t) (now (dst .entry)) ⌝ }
+// Type t joins those in the first w words of dst, if it obeys naming r and is one of the types of base that have a name.
+fn add_type(names: &[u8], n: usize, r: u64, w: usize, base: &[u64], t: usize, dst: &mut [u64])
+    requires { ⌜ Named (now names) n × ((w ≤ 1024) × ((w + w ≤ length (now base)) × ((w ≤ length (now dst)) × (t < w * 64)))) ⌝ }
+    ensures { λ _. ⌜ now (dst .exit) ≡ packed w (λ u. member (now (dst .entry)) u || (member (now (base .entry)) (w * 64 + u) && (eqb u t && obeysBy (now (names .entry)) n r u))) (now (dst .entry)) ⌝ }
 {
-    let mut k = 0;
-    while k < w {
-        dst[k] = base[k] & naming_word(names, others, r, k);
-        k += 1;
+    if !obeys(names, n, r, t) {
+        return;
+    }
+    if wordset::contains(base, w * 64 + t) {
+        dst[t / 64] = dst[t / 64] | (1 << (t % 64));
+    }
+}
+
+// The first w words of dst become the start types of naming r: those of base without a name, and of those with one the names' own types that obey.
+pub fn start_words(names: &[u8], n: usize, r: u64, w: usize, base: &[u64], dst: &mut [u64])
+    requires { ⌜ Named (now names) n × ((2 ^ n ≤ w * 64) × ((w ≤ 1024) × ((w + w ≤ length (now base)) × (w ≤ length (now dst))))) ⌝ }
+    ensures { λ _. ⌜ now (dst .exit) ≡ packed w (startsBy w (now (base .entry)) (now (names .entry)) n r) (now (dst .entry)) ⌝ }
+{
+    wordset::copy(dst, base, w);
+    let mut i = 0;
+    while i < names.len() {
+        let t = named_type(names[i] as usize, n, r, i);
+        add_type(names, n, r, w, base, t, dst);
+        i += 1;
     }
 }

@@ -1,6 +1,5 @@
 -- One naming by words: what the stores hold after the start and after the rounds, as lists. Assumes nothing.
 use mathlib.Core.Path.{_≡_, ap, _∙_}
-use mathlib.Core.Bool.{_&&_}
 use mathlib.Core.List.{List}
 use Prim.Native.Nat.{ℕ, _*_, _≤_, _<_}
 use native.Mathlib.Omega.{arith}
@@ -17,7 +16,7 @@ use Rattle.truth.specs.Truths.{Tr}
 use Rattle.links.specs.Links.{Lk}
 use Rattle.tableau.specs.Families.{Rounds, Survivors}
 use Rattle.truth.specs.Blocks.{listOf}
-use Rattle.start.specs.Starts.{obeysBy, startList}
+use Rattle.start.specs.Starts.{startList, startsBy}
 use Rattle.tableau.specs.Tabled.{Tabled}
 use Rattle.truth.proofs.ListWords.{count-list, held, list-packed}
 
@@ -32,34 +31,34 @@ survivors-list ms ln w start d x a b h e =
 
 -- ---- start types
 
-module _ (w : ℕ) (base names others : List ℕ) (r : ℕ) where
-  pub start-ascend : Ascending 0 (startList w base names others r)
+module _ (w : ℕ) (base names : List ℕ) (n r : ℕ) where
+  pub start-ascend : Ascending 0 (startList w base names n r)
   unfolding startList
-  start-ascend = ascending-keep (λ t. member base t && obeysBy names others r t) 0 (below (w * 64)) (ascending-count 0 (w * 64))
+  start-ascend = ascending-keep (startsBy w base names n r) 0 (below (w * 64)) (ascending-count 0 (w * 64))
 
-  pub start-below : (t : ℕ) → t ∈ startList w base names others r → t < w * 64
+  pub start-below : (t : ℕ) → t ∈ startList w base names n r → t < w * 64
   unfolding startList
-  start-below t m = below-out (w * 64) (keep-out (λ t. member base t && obeysBy names others r t) (below (w * 64)) m .0)
+  start-below t m = below-out (w * 64) (keep-out (startsBy w base names n r) (below (w * 64)) m .0)
 
   -- x is the first store after the start
-  module _ (d x : List ℕ) (h : w ≤ length d) (n : length x ≡ length d) (e : x ≡ packed w (λ t. member base t && obeysBy names others r t) d) where
-    start-list : listOf w x ≡ startList w base names others r
+  module _ (d x : List ℕ) (h : w ≤ length d) (long : length x ≡ length d) (e : x ≡ packed w (startsBy w base names n r) d) where
+    start-list : listOf w x ≡ startList w base names n r
     unfolding listOf startList
     start-list =
-        keep-same (member x) (λ t. member base t && obeysBy names others r t) (below (w * 64))
-        (λ t m. held (λ t. member base t && obeysBy names others r t) d x w h e t (below-out (w * 64) m))
+        keep-same (member x) (startsBy w base names n r) (below (w * 64))
+        (λ t m. held (startsBy w base names n r) d x w h e t (below-out (w * 64) m))
 
     -- y and z are the stores after the rounds, and c has the counts
     pub table-is : (ms ln second y z : List ℕ) (c : Counts) → c .start ≡ countBelow (w * 64) (member x) → c .left ≡ countBelow (w * 64) (member y) → c .rounds ≡ Rounds ms ln (listOf w x)
         → y ≡ packed w (λ t. elem t (Survivors ms ln (listOf w x))) x → z ≡ packed w (λ t. elem t (Survivors ms ln (listOf w x))) second
-        → Tabled (startList w base names others r) (Survivors ms ln (startList w base names others r)) (Rounds ms ln (startList w base names others r)) w d second y z c
+        → Tabled (startList w base names n r) (Survivors ms ln (startList w base names n r)) (Rounds ms ln (startList w base names n r)) w d second y z c
     table-is ms ln second y z c es el er ey ez =
         let q = start-list in
         let y-is = ey ∙ ap (λ s. packed w (λ t. elem t (Survivors ms ln s)) x) q in
         record {
           started = es ∙ count-list w x ∙ ap length q;
-          left-over = el ∙ count-list w y ∙ ap length (survivors-list ms ln w (startList w base names others r) x y start-ascend start-below (omega arith) y-is);
+          left-over = el ∙ count-list w y ∙ ap length (survivors-list ms ln w (startList w base names n r) x y start-ascend start-below (omega arith) y-is);
           rounds-done = er ∙ ap (Rounds ms ln) q;
-          first-holds = packed-twice (λ t. member base t && obeysBy names others r t) (λ t. elem t (Survivors ms ln (startList w base names others r))) d x y w h e y-is;
+          first-holds = packed-twice (startsBy w base names n r) (λ t. elem t (Survivors ms ln (startList w base names n r))) d x y w h e y-is;
           second-holds = ez ∙ ap (λ s. packed w (λ t. elem t (Survivors ms ln s)) second) q;
         }

@@ -1,10 +1,10 @@
 // One naming: its start types, the rounds, and the survivors. Assumes nothing.
 use crate::eliminate::settle;
 use start::start_words;
-ghost use Prim.Native.Nat.{ℕ, _≤_, _<_};
-ghost use lib.ListN.{length, getD};
+ghost use Prim.Native.Nat.{_+_, _*_, _^_, _≤_};
+ghost use lib.ListN.{length};
 ghost use Rattle.tableau.specs.Families.{Ready, Rounds, Survivors};
-ghost use Rattle.start.specs.Starts.{startList};
+ghost use Rattle.start.specs.Starts.{Named, startList};
 ghost use Rattle.tableau.specs.Tabled.{Tabled};
 
 // How many start types a naming has, how many types survive, and after how many rounds.
@@ -22,7 +22,6 @@ pub fn table(
     tw: &[u64],
     lw: &[u64],
     names: &[u8],
-    others: &[u8],
     r: u64,
     base: &[u64],
     first: &mut [u64],
@@ -33,12 +32,10 @@ pub fn table(
 ) -> Counts
     requires { ⌜ Ready (now ms) (now ln) w (now tw) (now lw) ⌝ }
     requires { ⌜ (w ≤ length (now first)) × (w ≤ length (now second)) × (w ≤ length (now u)) × (w ≤ length (now todo)) × (w ≤ length (now v)) ⌝ }
-    requires { ⌜ (length (now others) ≤ 30) × (length (now names) ≤ 2) × (w ≤ length (now base)) ⌝ }
-    requires { ⌜ ((i : ℕ) → i < length (now others) → getD (now others) i 0 ≤ 60) ⌝ }
-    requires { ⌜ ((i : ℕ) → i < length (now names) → getD (now names) i 0 ≤ 60) ⌝ }
-    ensures { λ c. ⌜ Tabled (startList w (now (base .entry)) (now (names .entry)) (now (others .entry)) r) (Survivors (now (ms .entry)) (now (ln .entry)) (startList w (now (base .entry)) (now (names .entry)) (now (others .entry)) r)) (Rounds (now (ms .entry)) (now (ln .entry)) (startList w (now (base .entry)) (now (names .entry)) (now (others .entry)) r)) w (now (first .entry)) (now (second .entry)) (now (first .exit)) (now (second .exit)) c ⌝ }
+    requires { ⌜ Named (now names) (length (now ln)) × ((2 ^ length (now ln) ≤ w * 64) × (w + w ≤ length (now base))) ⌝ }
+    ensures { λ c. ⌜ Tabled (startList w (now (base .entry)) (now (names .entry)) (length (now (ln .entry))) r) (Survivors (now (ms .entry)) (now (ln .entry)) (startList w (now (base .entry)) (now (names .entry)) (length (now (ln .entry))) r)) (Rounds (now (ms .entry)) (now (ln .entry)) (startList w (now (base .entry)) (now (names .entry)) (length (now (ln .entry))) r)) w (now (first .entry)) (now (second .entry)) (now (first .exit)) (now (second .exit)) c ⌝ }
 {
-    start_words(names, others, r, w, base, first);
+    start_words(names, ln.len(), r, w, base, first);
     let s = wordset::size(first, w);
     let n = settle(ms, ln, w, tw, lw, first, second, u, todo, v);
     let l = wordset::size(first, w);

@@ -2,6 +2,7 @@
 use mathlib.Core.Path.{_≡_}
 use Prim.Native.Nat.{_-_, _*_}
 use native.Mathlib.Omega.{arith}
+use lib.ListN.{length}
 use borrow.Author.Needs.{needs}
 use Rattle.ctl.specs.Lists.{elem}
 use Rattle.tableau.specs.Families.{Survivors}
@@ -13,33 +14,33 @@ use Rattle.booking.proofs.fill_book.Statement.{statement}
 use Rattle.booking.proofs.fill_book.Tie as tie
 
 abbrev Inv-loop : tie.InvT-loop
-Inv-loop ms ln w tw lw names others base namings store₀ n₀ store n =
-    Written (λ q t. elem t (Survivors ms ln (startList w base names others q))) w namings store₀ store (n .number) × (n .count ≡ namings)
+Inv-loop ms ln w tw lw names base namings store₀ n₀ store n =
+    Written (λ q t. elem t (Survivors ms ln (startList w base names (length ln) q))) w namings store₀ store (n .number) × (n .count ≡ namings)
 
 abbrev μ-loop : tie.MeasureT-loop
-μ-loop ms ln w tw lw names others base namings store₀ n₀ store n = n .count - n .number
+μ-loop ms ln w tw lw names base namings store₀ n₀ store n = n .count - n .number
 
 first-requires : tie.Need-first-requires Inv-loop μ-loop
 first-requires c κs = search needs
 
 loop-holds : tie.Need-loop-holds Inv-loop μ-loop
 loop-holds c =
-    let b9 = c .before .before .before .before .before .before .before .before .before in
-    (written-moved (written-start (b9 .pre .1 .1 .1 .1)) (start-number (c .first .result) (c .first .ensures)), start-count (c .first .result) (c .first .ensures))
+    let b8 = c .before .before .before .before .before .before .before .before in
+    (written-moved (written-start (b8 .pre .1 .1 .1)) (start-number (c .first .result) (c .first .ensures)), start-count (c .first .result) (c .first .ensures))
 
 mul-at : tie.Need-mul-at Inv-loop μ-loop
 mul-at c =
     let b2 = c .before .before in
-    let b12 = b2 .before .before .before .before .before .before .before .before .before .before in
+    let b11 = b2 .before .before .before .before .before .before .before .before .before in
     let at = b2 .loop in
-    omega (arith, b12 .good .1 .1 .1 .1 .1 .1 .1 .1 .1 .0, written-room (at .inv .0) (in-hand (at .n) (at .inv .1) (c .if1 .taken)))
+    omega (arith, b11 .good .1 .1 .1 .1 .1 .1 .1 .1 .0, written-room (at .inv .0) (in-hand (at .n) (at .inv .1) (c .if1 .taken)))
 
 mul-fill-one : tie.Need-mul-fill-one Inv-loop μ-loop
 mul-fill-one c =
     let b2 = c .before .before in
-    let b12 = b2 .before .before .before .before .before .before .before .before .before .before in
+    let b11 = b2 .before .before .before .before .before .before .before .before .before in
     let at = b2 .loop in
-    omega (arith, b12 .good .1 .1 .1 .1 .1 .1 .1 .1 .1 .0, written-room (at .inv .0) (in-hand (at .n) (at .inv .1) (c .if1 .taken)))
+    omega (arith, b11 .good .1 .1 .1 .1 .1 .1 .1 .1 .0, written-room (at .inv .0) (in-hand (at .n) (at .inv .1) (c .if1 .taken)))
 
 sub-fill-one : tie.Need-sub-fill-one Inv-loop μ-loop
 sub-fill-one c =
@@ -63,12 +64,12 @@ fill-one-requires : tie.Need-fill-one-requires Inv-loop μ-loop
 fill-one-requires c κs =
     let b1 = c .before in
     let b3 = b1 .before .before in
-    let b13 = b3 .before .before .before .before .before .before .before .before .before .before in
+    let b12 = b3 .before .before .before .before .before .before .before .before .before in
     let at = b3 .loop in
-    let p = b13 .pre .1 in
+    let p = b12 .pre .1 in
     let room = written-room (at .inv .0) (in-hand (at .n) (at .inv .1) (b1 .if1 .taken)) in
-    let long = tail-length (at .store) (at .n .number * b13 .args .w) in
-    (b13 .pre .0, (p .0, (p .1 .0, (p .1 .1 .0, omega (arith, room, long)))))
+    let long = tail-length (at .store) (at .n .number * b12 .args .w) in
+    (b12 .pre .0, (p .0, (p .1 .0, omega (arith, room, long))))
 
 advanced-requires : tie.Need-advanced-requires Inv-loop μ-loop
 advanced-requires c κs = search needs
@@ -86,7 +87,7 @@ loop-again c =
     let b7 = b5 .before .before in
     let at = b7 .loop in
     let next = c .advanced in
-    let written = written-next (b3 .fill-one .last .1 .1 .1 .1 .1 .1 .1 .1 .1 .0) (at .inv .0) (in-hand (at .n) (at .inv .1) (b5 .if1 .taken)) (b3 .fill-one .ensures) in
+    let written = written-next (b3 .fill-one .last .1 .1 .1 .1 .1 .1 .1 .1 .0) (at .inv .0) (in-hand (at .n) (at .inv .1) (b5 .if1 .taken)) (b3 .fill-one .ensures) in
     (written-moved written (next-number (at .n) (next .result) (next .ensures) (b5 .if1 .taken)), next-count (at .n) (next .result) (next .ensures) (at .inv .1))
 
 same-length : tie.Need-same-length Inv-loop μ-loop

@@ -8,9 +8,9 @@ slice-aggregate-fill-table c = search needs
 
 fill-table-requires : tie.Need-fill-table-requires
 fill-table-requires c κs =
-    let start = c .before .before .before .before .before .before .before .before .before .before in
+    let start = c .before .before .before .before .before .before .before .before .before in
     let p = start .pre .1 in
-    (start .pre .0, (p .0, (p .1 .0, (p .1 .1 .0, (p .1 .1 .1, p .1 .0)))))
+    (start .pre .0, (p .0, (p .1 .0, (p .1 .1, p .1 .0))))
 
 same-length : tie.Need-same-length
 same-length c = search needs

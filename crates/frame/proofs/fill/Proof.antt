@@ -10,30 +10,36 @@ array-share-prefix-members : tie.Need-array-share-prefix-members
 array-share-prefix-members c = search needs
 
 slice-aggregate-fill-words : tie.Need-slice-aggregate-fill-words
-slice-aggregate-fill-words c = sym (length-take-le _ _ (c .before .before .before .before .before .before .before .before .pre .0 .1 .members-within))
+slice-aggregate-fill-words c = sym (length-take-le _ _ (c .before .before .before .before .before .before .before .before .before .pre .0 .1 .members-within))
 
 array-share-prefix-lean : tie.Need-array-share-prefix-lean
 array-share-prefix-lean c = search needs
 
 slice-aggregate-fill-words-2 : tie.Need-slice-aggregate-fill-words-2
-slice-aggregate-fill-words-2 c = sym (length-take-le _ _ (c .before .before .before .before .before .before .before .before .before .pre .0 .1 .lean-within))
+slice-aggregate-fill-words-2 c = sym (length-take-le _ _ (c .before .before .before .before .before .before .before .before .before .before .pre .0 .1 .lean-within))
 
 array-share-prefix-everywhere : tie.Need-array-share-prefix-everywhere
 array-share-prefix-everywhere c = search needs
 
 slice-aggregate-fill-words-3 : tie.Need-slice-aggregate-fill-words-3
-slice-aggregate-fill-words-3 c = sym (length-take-le _ _ (c .before .before .before .before .before .before .before .before .before .before .pre .0 .1 .globals-within))
+slice-aggregate-fill-words-3 c = sym (length-take-le _ _ (c .before .before .before .before .before .before .before .before .before .before .before .pre .0 .1 .globals-within))
 
 array-share-prefix-valued : tie.Need-array-share-prefix-valued
 array-share-prefix-valued c = search needs
 
 slice-aggregate-fill-words-4 : tie.Need-slice-aggregate-fill-words-4
-slice-aggregate-fill-words-4 c = sym (length-take-le _ _ (c .before .before .before .before .before .before .before .before .before .before .before .pre .0 .1 .values-within))
+slice-aggregate-fill-words-4 c = sym (length-take-le _ _ (c .before .before .before .before .before .before .before .before .before .before .before .before .pre .0 .1 .values-within))
+
+array-share-prefix-named : tie.Need-array-share-prefix-named
+array-share-prefix-named c = search needs
+
+slice-aggregate-fill-words-5 : tie.Need-slice-aggregate-fill-words-5
+slice-aggregate-fill-words-5 c = sym (length-take-le _ _ (c .before .before .before .before .before .before .before .before .before .before .before .before .before .pre .0 .1 .names-within))
 
 fill-words-requires : tie.Need-fill-words-requires
 fill-words-requires c κs =
-    let b14 = c .before .before .before .before .before .before .before .before .before .before .before .before .before .before in
-    fill-asks (b14 .pre .0 .1) _ _ _ (b14 .pre .1 .0) (b14 .pre .1 .1) (b14 .pre .1 .2)
+    let b16 = c .before .before .before .before .before .before .before .before .before .before .before .before .before .before .before .before in
+    fill-asks (b16 .pre .0 .1) _ _ _ (b16 .pre .1 .0) (b16 .pre .1 .1) (b16 .pre .1 .2)
 
 same-length : tie.Need-same-length
 same-length c = search needs
@@ -59,6 +65,8 @@ fill-spec =
     slice-aggregate-fill-words-3
     array-share-prefix-valued
     slice-aggregate-fill-words-4
+    array-share-prefix-named
+    slice-aggregate-fill-words-5
     fill-words-requires
     same-length
     same-length-2

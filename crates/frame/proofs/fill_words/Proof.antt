@@ -11,14 +11,14 @@ truth-words-requires c κs = search needs
 link-words-requires : tie.Need-link-words-requires
 link-words-requires c κs =
     let b4 = c .before .before .before .before in
-    let b13 = b4 .before .before .before .before .before .before .before .before .before in
-    (b13 .pre .0 .table, (b4 .truth-words .ensures, (b13 .pre .1 .2, (let w = b13 .pre .1 .0 in omega arith))))
+    let b14 = b4 .before .before .before .before .before .before .before .before .before .before in
+    (b14 .pre .0 .0 .table, (b4 .truth-words .ensures, (b14 .pre .1 .2, (let w = b14 .pre .1 .0 in omega arith))))
 
 base-words-requires : tie.Need-base-words-requires
 base-words-requires c κs =
     let b9 = c .before .before .before .before .before .before .before .before .before in
-    let b18 = b9 .before .before .before .before .before .before .before .before .before in
-    (b9 .truth-words .ensures, ((b18 .pre .1 .3, b18 .pre .0 .leans .short), (b18 .pre .0 .globals-in, b18 .pre .0 .values-in)))
+    let b19 = b9 .before .before .before .before .before .before .before .before .before .before in
+    (b9 .truth-words .ensures, (b19 .pre .1 .3, (b19 .pre .0 .0 .globals-in, (b19 .pre .0 .0 .values-in, b19 .pre .0 .1))))
 
 same-length : tie.Need-same-length
 same-length c = search needs
@@ -34,8 +34,8 @@ returns c =
     let b2 = c .before .before in
     let b7 = b2 .before .before .before .before .before in
     let b12 = b7 .before .before .before .before .before in
-    let b21 = b12 .before .before .before .before .before .before .before .before .before in
-    (ready-by (b21 .pre .0) (b21 .pre .1 .0) (b12 .truth-words .ensures) (b7 .link-words .ensures), b2 .base-words .ensures)
+    let b22 = b12 .before .before .before .before .before .before .before .before .before .before in
+    (ready-by (b22 .pre .0 .0) (b22 .pre .1 .0) (b12 .truth-words .ensures) (b7 .link-words .ensures), b2 .base-words .ensures)
 
 pub fill-words-spec : {M : Type 1} → statement M
 fill-words-spec =

@@ -88,23 +88,20 @@ slice-aggregate-frame-of-6 c = search needs
 slice-aggregate-frame-of-7 : tie.Need-slice-aggregate-frame-of-7
 slice-aggregate-frame-of-7 c = search needs
 
-slice-aggregate-frame-of-8 : tie.Need-slice-aggregate-frame-of-8
-slice-aggregate-frame-of-8 c = search needs
-
 frame-of-requires : tie.Need-frame-of-requires
 frame-of-requires c κs =
-    let b12 = c .before .before .before .before .before .before .before .before .before .before .before .before in
+    let b11 = c .before .before .before .before .before .before .before .before .before .before .before in
+    let b12 = b11 .before in
     let b13 = b12 .before in
-    let b14 = b13 .before in
-    frame-asked (b14 .read .ensures) (b13 .number .ensures) (b12 .if1 .left) (length-unmapped (usize-field .Value) (b14 .read .result .places) 5 (b14 .read .ok .1 .1 .1 .1 .1 .1 .1 .0 .1 .0 .1)) refl refl refl refl
+    frame-asked (b13 .read .ensures) (b12 .number .ensures) (b11 .if1 .left) (length-unmapped (usize-field .Value) (b13 .read .result .places) 5 (b13 .read .ok .1 .1 .1 .1 .1 .1 .1 .0 .1 .0 .1)) refl refl refl
 
 returns-2 : tie.Need-returns-2
 returns-2 c =
-    let b4 = c .before .before .before .before in
-    let b17 = b4 .before .before .before .before .before .before .before .before .before .before .before .before .before in
-    let b18 = b17 .before in
-    let b19 = b18 .before in
-    setup-accepted (b19 .read .ensures) (b18 .number .ensures) (b17 .if1 .left) (length-unmapped (usize-field .Value) (b19 .read .result .places) 5 (b19 .read .ok .1 .1 .1 .1 .1 .1 .1 .0 .1 .0 .1)) (b4 .frame-of .ensures) (b4 .frame-of .kept .1 .1 .1 .1 .0) (b4 .frame-of .kept .1 .1 .1 .1 .1 .0) (b4 .frame-of .kept .1 .1 .1 .1 .1 .1 .0) (b4 .frame-of .kept .1 .1 .1 .1 .1 .1 .1 .0)
+    let b3 = c .before .before .before in
+    let b15 = b3 .before .before .before .before .before .before .before .before .before .before .before .before in
+    let b16 = b15 .before in
+    let b17 = b16 .before in
+    setup-accepted (b17 .read .ensures) (b16 .number .ensures) (b15 .if1 .left) (length-unmapped (usize-field .Value) (b17 .read .result .places) 5 (b17 .read .ok .1 .1 .1 .1 .1 .1 .1 .0 .1 .0 .1)) (b3 .frame-of .ensures) (b3 .frame-of .kept .1 .1 .1 .1 .0) (b3 .frame-of .kept .1 .1 .1 .1 .1 .0) (b3 .frame-of .kept .1 .1 .1 .1 .1 .1 .0)
 
 pub set-up-spec : {M : Type 1} → statement M
 set-up-spec =
@@ -125,6 +122,5 @@ set-up-spec =
     slice-aggregate-frame-of-5
     slice-aggregate-frame-of-6
     slice-aggregate-frame-of-7
-    slice-aggregate-frame-of-8
     frame-of-requires
     returns-2)

@@ -14,9 +14,9 @@ slice-aggregate-table-3 c = search needs
 
 table-requires : tie.Need-table-requires
 table-requires c κs =
-    let b14 = c .before .before .before .before .before .before .before .before .before .before .before .before .before .before in
-    let p = b14 .pre .1 in
-    (b14 .pre .0, ((p .1 .1 .1 .0, p .1 .1 .1 .1, p .1 .0, p .1 .0, p .1 .0), ((p .0 .others-few, p .0 .names-few, p .1 .1 .0), (p .0 .others-in, p .0 .names-in))))
+    let b13 = c .before .before .before .before .before .before .before .before .before .before .before .before .before in
+    let p = b13 .pre .1 in
+    (b13 .pre .0, ((p .1 .1 .0, p .1 .1 .1, p .1 .0, p .1 .0, p .1 .0), (p .0 .named, (p .0 .enough, p .0 .base-room))))
 
 same-length : tie.Need-same-length
 same-length c = search needs

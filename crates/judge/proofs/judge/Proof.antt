@@ -9,11 +9,11 @@ use Rattle.judge.proofs.judge.Statement.{statement}
 use Rattle.judge.proofs.judge.Tie as tie
 
 abbrev Inv-loop : tie.InvT-loop
-Inv-loop ms ln w tw lw names others base goal namings first₀ second₀ u₀ todo₀ v₀ n₀ first second u todo v n =
-    Judging (goalsAt ms ln w base names others goal) namings (n .number) × ((n .count ≡ namings) × Kept first₀ second₀ u₀ todo₀ v₀ first second u todo v)
+Inv-loop ms ln w tw lw names base goal namings first₀ second₀ u₀ todo₀ v₀ n₀ first second u todo v n =
+    Judging (goalsAt ms ln w base names goal) namings (n .number) × ((n .count ≡ namings) × Kept first₀ second₀ u₀ todo₀ v₀ first second u todo v)
 
 abbrev μ-loop : tie.MeasureT-loop
-μ-loop ms ln w tw lw names others base goal namings first₀ second₀ u₀ todo₀ v₀ n₀ first second u todo v n =
+μ-loop ms ln w tw lw names base goal namings first₀ second₀ u₀ todo₀ v₀ n₀ first second u todo v n =
     n .count - n .number
 
 first-requires : tie.Need-first-requires Inv-loop μ-loop
@@ -25,8 +25,8 @@ loop-holds c = (judge-moved judge-start (start-number (c .first .result) (c .fir
 try-naming-requires : tie.Need-try-naming-requires Inv-loop μ-loop
 try-naming-requires c κs =
     let b7 = c .before .before .before .before .before .before .before in
-    let b21 = b7 .before .before .before .before .before .before .before .before .before .before .before .before .before .before in
-    (b21 .pre .0, (room-kept (b21 .pre .1 .0) (b7 .loop .inv .1 .1), b21 .pre .1 .1))
+    let b20 = b7 .before .before .before .before .before .before .before .before .before .before .before .before .before in
+    (b20 .pre .0, (room-kept (b20 .pre .1 .0) (b7 .loop .inv .1 .1), b20 .pre .1 .1))
 
 enum-known-found : tie.Need-enum-known-found Inv-loop μ-loop
 enum-known-found c = search needs
@@ -74,7 +74,7 @@ loop-again c =
     let b21 = b19 .before .before in
     let now = b21 .loop in
     let next = c .advanced in
-    let kept = b13 .try-naming .kept .1 .1 .1 .1 .1 .1 .1 .1 .1 .1 in
+    let kept = b13 .try-naming .kept .1 .1 .1 .1 .1 .1 .1 .1 .1 in
     let none = sym (b13 .try-naming .ensures) ∙ b1 .enum-told .given .1 in
     (judge-moved (judge-next (now .inv .0) (in-hand (now .n) (now .inv .1 .0) (b19 .if1 .taken)) none) (next-number (now .n) (next .result) (next .ensures) (b19 .if1 .taken)), (next-count (now .n) (next .result) (next .ensures) (now .inv .1 .0), kept-more (now .inv .1 .1) (record { first-long = kept .0; second-long = kept .1 .0; u-long = kept .1 .1 .0; todo-long = kept .1 .1 .1 .0; v-long = kept .1 .1 .1 .1 .0 })))
 

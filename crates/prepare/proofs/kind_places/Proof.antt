@@ -1,6 +1,4 @@
 -- `kind_places` meets its contract: after k turns the store has the places below k that are sought. Assumes nothing.
-use mathlib.Core.Path.{ap, _∙_}
-use mathlib.Core.Bool.{cond, not}
 use Prim.Native.Nat.{_-_}
 use native.Mathlib.Omega.{arith}
 use lib.ListN.{length}
@@ -11,10 +9,10 @@ use Rattle.prepare.proofs.kind_places.Statement.{statement}
 use Rattle.prepare.proofs.kind_places.Tie as tie
 
 abbrev Inv-loop : tie.InvT-loop
-Inv-loop ms ln kinds kind on store₀ n₀ k₀ store n k = Parted (kindAt on kind ms ln kinds) store₀ (length ln) k store n
+Inv-loop ms ln kinds kind store₀ n₀ k₀ store n k = Parted (kindAt kind ms ln kinds) store₀ (length ln) k store n
 
 abbrev μ-loop : tie.MeasureT-loop
-μ-loop ms ln kinds kind on store₀ n₀ k₀ store n k = length ln - k
+μ-loop ms ln kinds kind store₀ n₀ k₀ store n k = length ln - k
 
 loop-holds : tie.Need-loop-holds Inv-loop μ-loop
 loop-holds c = parted-first
@@ -43,45 +41,39 @@ cast-put-if c =
     let l = b4 .loop-test .taken in
     omega arith
 
-agrees-requires : tie.Need-agrees-requires Inv-loop μ-loop
-agrees-requires c κs = search needs
-
 put-if-requires : tie.Need-put-if-requires Inv-loop μ-loop
 put-if-requires c κs =
-    let b5 = c .before .before .before .before .before in
-    let b6 = b5 .before in
-    let h = b6 .before .before .before .before .before .pre .1 .room in
-    let l = b5 .loop-test .taken in
-    let f = b6 .loop .inv .few in
-    let e = b6 .loop .inv .same in
+    let b4 = c .before .before .before .before in
+    let b5 = b4 .before in
+    let h = b5 .before .before .before .before .before .pre .1 .room in
+    let l = b4 .loop-test .taken in
+    let f = b5 .loop .inv .few in
+    let e = b5 .loop .inv .same in
     omega arith
 
 add-k : tie.Need-add-k Inv-loop μ-loop
 add-k c =
-    let b8 = c .before .before .before .before .before .before .before .before in
-    let h = b8 .before .before .before .before .before .before .pre .1 .short in
-    let l = b8 .loop-test .taken in
+    let b7 = c .before .before .before .before .before .before .before in
+    let h = b7 .before .before .before .before .before .before .pre .1 .short in
+    let l = b7 .loop-test .taken in
     omega arith
 
 loop-less : tie.Need-loop-less Inv-loop μ-loop
-loop-less c = let l = c .before .before .before .before .before .before .before .before .loop-test .taken in omega arith
+loop-less c = let l = c .before .before .before .before .before .before .before .loop-test .taken in omega arith
 
 loop-again : tie.Need-loop-again Inv-loop μ-loop
 unfolding kindAt
 loop-again c =
     let b2 = c .before .before in
-    let b3 = b2 .before in
-    let b5 = b3 .before .before in
-    let b8 = b5 .before .before .before in
-    let b9 = b8 .before in
-    let b14 = b9 .before .before .before .before .before in
-    parted-next (b9 .loop .inv) (b8 .loop-test .taken) (b14 .pre .1 .room) _ (b3 .agrees .ensures ∙ ap (λ b. cond (b14 .args .on) b (not b)) (b5 .is-kind .ensures)) (b2 .put-if .ensures .0) (b2 .put-if .ensures .1)
+    let b7 = b2 .before .before .before .before .before in
+    let b8 = b7 .before in
+    parted-next (b8 .loop .inv) (b7 .loop-test .taken) (b8 .before .before .before .before .before .pre .1 .room) _ (b2 .before .before .is-kind .ensures) (b2 .put-if .ensures .0) (b2 .put-if .ensures .1)
 
 same-length : tie.Need-same-length Inv-loop μ-loop
 same-length c = c .before .loop .inv .same
 
 returns : tie.Need-returns Inv-loop μ-loop
-returns c = parted-done _ _ _ _ _ (c .before .loop .inv) (c .loop-test .left)
+returns c = parted-done _ _ _ _ (c .before .loop .inv) (c .loop-test .left)
 
 pub kind-places-spec : {M : Type 1} → statement M
 kind-places-spec =
@@ -96,7 +88,6 @@ kind-places-spec =
     shared-slice-read-is-kind-2
     is-kind-requires
     cast-put-if
-    agrees-requires
     put-if-requires
     add-k
     loop-less

@@ -1,7 +1,6 @@
 -- `report_in` meets its contract: what each call asks follows from the set-up. Assumes nothing.
 use mathlib.Core.Path.{refl, sym}
 use native.Mathlib.Omega.{arith}
-use lib.ListN.{replicate}
 use lib.Seq.{length-take-le}
 use denote.Ref.{now}
 use Rattle.report.proofs.ReportLaws.{accepted, pages-asked, prints}
@@ -17,66 +16,56 @@ slice-aggregate-fill-2 c = search needs
 
 fill-requires : tie.Need-fill-requires
 fill-requires c κs =
-    let b10 = c .before .before .before .before .before .before .before .before .before .before in
-    ((_, accepted (b10 .pre .1 .0) (b10 .pre .1 .1 .0)), (omega arith, b10 .pre .1 .1 .1 .0, omega arith))
+    let b9 = c .before .before .before .before .before .before .before .before .before in
+    ((_, accepted (b9 .pre .1 .0) (b9 .pre .1 .1 .0)), (omega arith, b9 .pre .1 .1 .1 .0, omega arith))
 
 array-share-prefix-members : tie.Need-array-share-prefix-members
 array-share-prefix-members c =
-    let b16 = c .before .before .before .before .before .before .before .before .before .before .before .before .before .before .before .before in
-    accepted (b16 .pre .1 .0) (b16 .pre .1 .1 .0) .members-within
+    let b15 = c .before .before .before .before .before .before .before .before .before .before .before .before .before .before .before in
+    accepted (b15 .pre .1 .0) (b15 .pre .1 .1 .0) .members-within
 
 slice-aggregate-write-pages : tie.Need-slice-aggregate-write-pages
 slice-aggregate-write-pages c =
-    let b17 = c .before .before .before .before .before .before .before .before .before .before .before .before .before .before .before .before .before in
-    sym (length-take-le _ _ (accepted (b17 .pre .1 .0) (b17 .pre .1 .1 .0) .members-within))
+    let b16 = c .before .before .before .before .before .before .before .before .before .before .before .before .before .before .before .before in
+    sym (length-take-le _ _ (accepted (b16 .pre .1 .0) (b16 .pre .1 .1 .0) .members-within))
 
 array-share-prefix-lean : tie.Need-array-share-prefix-lean
 array-share-prefix-lean c =
-    let b17 = c .before .before .before .before .before .before .before .before .before .before .before .before .before .before .before .before .before in
-    accepted (b17 .pre .1 .0) (b17 .pre .1 .1 .0) .lean-within
+    let b16 = c .before .before .before .before .before .before .before .before .before .before .before .before .before .before .before .before in
+    accepted (b16 .pre .1 .0) (b16 .pre .1 .1 .0) .lean-within
 
 slice-aggregate-write-pages-2 : tie.Need-slice-aggregate-write-pages-2
 slice-aggregate-write-pages-2 c =
-    let b18 = c .before .before .before .before .before .before .before .before .before .before .before .before .before .before .before .before .before .before in
-    sym (length-take-le _ _ (accepted (b18 .pre .1 .0) (b18 .pre .1 .1 .0) .lean-within))
+    let b17 = c .before .before .before .before .before .before .before .before .before .before .before .before .before .before .before .before .before in
+    sym (length-take-le _ _ (accepted (b17 .pre .1 .0) (b17 .pre .1 .1 .0) .lean-within))
 
 slice-aggregate-write-pages-3 : tie.Need-slice-aggregate-write-pages-3
 slice-aggregate-write-pages-3 c = search needs
 
 array-share-prefix-named : tie.Need-array-share-prefix-named
 array-share-prefix-named c =
-    let b20 = c .before .before .before .before .before .before .before .before .before .before .before .before .before .before .before .before .before .before .before .before in
-    accepted (b20 .pre .1 .0) (b20 .pre .1 .1 .0) .names-within
+    let b19 = c .before .before .before .before .before .before .before .before .before .before .before .before .before .before .before .before .before .before .before in
+    accepted (b19 .pre .1 .0) (b19 .pre .1 .1 .0) .names-within
 
 slice-aggregate-write-pages-4 : tie.Need-slice-aggregate-write-pages-4
 slice-aggregate-write-pages-4 c =
-    let b21 = c .before .before .before .before .before .before .before .before .before .before .before .before .before .before .before .before .before .before .before .before .before in
-    sym (length-take-le _ _ (accepted (b21 .pre .1 .0) (b21 .pre .1 .1 .0) .names-within))
-
-array-share-prefix-unnamed : tie.Need-array-share-prefix-unnamed
-array-share-prefix-unnamed c =
-    let b21 = c .before .before .before .before .before .before .before .before .before .before .before .before .before .before .before .before .before .before .before .before .before in
-    accepted (b21 .pre .1 .0) (b21 .pre .1 .1 .0) .others-within
+    let b20 = c .before .before .before .before .before .before .before .before .before .before .before .before .before .before .before .before .before .before .before .before in
+    sym (length-take-le _ _ (accepted (b20 .pre .1 .0) (b20 .pre .1 .1 .0) .names-within))
 
 slice-aggregate-write-pages-5 : tie.Need-slice-aggregate-write-pages-5
-slice-aggregate-write-pages-5 c =
-    let b22 = c .before .before .before .before .before .before .before .before .before .before .before .before .before .before .before .before .before .before .before .before .before .before in
-    sym (length-take-le _ _ (accepted (b22 .pre .1 .0) (b22 .pre .1 .1 .0) .others-within))
+slice-aggregate-write-pages-5 c = search needs
 
 slice-aggregate-write-pages-6 : tie.Need-slice-aggregate-write-pages-6
 slice-aggregate-write-pages-6 c = search needs
 
-slice-aggregate-write-pages-7 : tie.Need-slice-aggregate-write-pages-7
-slice-aggregate-write-pages-7 c = search needs
-
 write-pages-requires : tie.Need-write-pages-requires
 write-pages-requires c κs =
-    let b13 = c .before .before .before .before .before .before .before .before .before .before .before .before .before in
-    let b24 = b13 .before .before .before .before .before .before .before .before .before .before .before in
-    let p = b24 .pre in
-    let f = b13 .fill .ensures in
-    let n = now (b24 .args .newline) in
-    (p .0, (prints (p .1 .0) (p .1 .1 .0) n (replicate 4 0) f refl, (f .0, (pages-asked (p .1 .0) (p .1 .1 .0) n (replicate 4 0) f refl (b13 .fill .kept .1 .1 .1 .0), (omega arith, p .1 .1 .1 .1)))))
+    let b12 = c .before .before .before .before .before .before .before .before .before .before .before .before in
+    let b22 = b12 .before .before .before .before .before .before .before .before .before .before in
+    let p = b22 .pre in
+    let f = b12 .fill .ensures in
+    let n = now (b22 .args .newline) in
+    (p .0, (prints (p .1 .0) (p .1 .1 .0) n f, (f .0, (pages-asked (p .1 .0) (p .1 .1 .0) n f (b12 .fill .kept .1 .1 .1 .0), (omega arith, p .1 .1 .1 .1)))))
 
 same-length : tie.Need-same-length
 same-length c = search needs
@@ -98,10 +87,8 @@ report-in-spec =
     slice-aggregate-write-pages-3
     array-share-prefix-named
     slice-aggregate-write-pages-4
-    array-share-prefix-unnamed
     slice-aggregate-write-pages-5
     slice-aggregate-write-pages-6
-    slice-aggregate-write-pages-7
     write-pages-requires
     same-length
     returns)

@@ -10,17 +10,17 @@ use Rattle.report.proofs.write_pages.Statement.{statement}
 use Rattle.report.proofs.write_pages.Tie as tie
 
 abbrev Inv-loop : tie.InvT-loop
-Inv-loop sheet newline done₀ ms ln w tw lw names others base goal namings out₀ used₀ n₀ v₀ done out used n v =
-    Printing sheet newline (goalsAt ms ln w base names others goal) namings out₀ out done used n v
+Inv-loop sheet newline done₀ ms ln w tw lw names base goal namings out₀ used₀ n₀ v₀ done out used n v =
+    Printing sheet newline (goalsAt ms ln w base names goal) namings out₀ out done used n v
 
 abbrev μ-loop : tie.MeasureT-loop
-μ-loop sheet newline done₀ ms ln w tw lw names others base goal namings out₀ used₀ n₀ v₀ done out used n v =
+μ-loop sheet newline done₀ ms ln w tw lw names base goal namings out₀ used₀ n₀ v₀ done out used n v =
     n .count - n .number
 
 put-heading-requires : tie.Need-put-heading-requires Inv-loop μ-loop
 put-heading-requires c κs =
-    let b11 = c .before .before .before .before .before .before .before .before .before .before .before in
-    let q = b11 .pre .1 .1 .1 .1 in
+    let b10 = c .before .before .before .before .before .before .before .before .before .before in
+    let q = b10 .pre .1 .1 .1 .1 in
     record { space = omega arith; short = q .1 }
 
 first-requires : tie.Need-first-requires Inv-loop μ-loop
@@ -29,16 +29,16 @@ first-requires c κs = search needs
 loop-holds : tie.Need-loop-holds Inv-loop μ-loop
 loop-holds c =
     let b3 = c .before .before .before in
-    let b15 = b3 .before .before .before .before .before .before .before .before .before .before .before .before in
-    let p = b15 .pre in
+    let b14 = b3 .before .before .before .before .before .before .before .before .before .before .before in
+    let p = b14 .pre in
     printing-start (p .1 .0) (p .0) (p .1 .1 .1 .1 .0) (b3 .put-heading .ensures) (b3 .put-heading .kept .0) (c .first .ensures)
 
 fill-page-requires : tie.Need-fill-page-requires Inv-loop μ-loop
 fill-page-requires c κs =
     let b1 = c .before in
-    let b17 = b1 .before .before .before .before .before .before .before .before .before .before .before .before .before .before .before .before in
+    let b16 = b1 .before .before .before .before .before .before .before .before .before .before .before .before .before .before .before in
     let at = b1 .loop .inv in
-    let p = b17 .pre .1 .1 in
+    let p = b16 .pre .1 .1 in
     let i = at .counts in
     let j = at .within in
     (p .0, (p .1 .0, (at .judged, (omega arith, (at .room, p .1 .1 .1)))))
@@ -46,13 +46,13 @@ fill-page-requires c κs =
 put-verdict-requires : tie.Need-put-verdict-requires Inv-loop μ-loop
 put-verdict-requires c κs =
     let b5 = c .before .before .before .before .before in
-    let b23 = b5 .before .before .before .before .before .before .before .before .before .before .before .before .before .before .before .before .before .before in
-    record { space = b5 .fill-page .ensures .room; short = b23 .pre .1 .1 .1 .1 .1 }
+    let b22 = b5 .before .before .before .before .before .before .before .before .before .before .before .before .before .before .before .before .before in
+    record { space = b5 .fill-page .ensures .room; short = b22 .pre .1 .1 .1 .1 .1 }
 
 add-write-lines : tie.Need-add-write-lines Inv-loop μ-loop
 add-write-lines c =
-    let b27 = c .before .before .before .before .before .before .before .before .before .before .before .before .before .before .before .before .before .before .before .before .before .before .before .before .before .before .before in
-    let f = b27 .pre .1 .0 .few-namings in
+    let b26 = c .before .before .before .before .before .before .before .before .before .before .before .before .before .before .before .before .before .before .before .before .before .before .before .before .before .before in
+    let f = b26 .pre .1 .0 .few-namings in
     omega arith
 
 slice-reshare-prefix-write-lines : tie.Need-slice-reshare-prefix-write-lines Inv-loop μ-loop
@@ -79,23 +79,23 @@ write-lines-requires c κs =
     let b6 = b4 .before .before in
     let b10 = b6 .before .before .before .before in
     let b12 = b10 .before .before in
-    let b28 = b12 .before .before .before .before .before .before .before .before .before .before .before .before .before .before .before .before in
+    let b27 = b12 .before .before .before .before .before .before .before .before .before .before .before .before .before .before .before in
     let r = b10 .fill-page .ensures .room in
-    last-lines (b28 .pre .1 .0) (b12 .loop .inv) (b10 .fill-page .ensures) (b6 .if1 .taken) (omega arith) (b4 .put-verdict .ensures .0)
+    last-lines (b27 .pre .1 .0) (b12 .loop .inv) (b10 .fill-page .ensures) (b6 .if1 .taken) (omega arith) (b4 .put-verdict .ensures .0)
 
 same-length : tie.Need-same-length Inv-loop μ-loop
 same-length c = search needs
 
 returns : tie.Need-returns Inv-loop μ-loop
 returns c =
-    let b29 = c .before .before .before .before .before .before .before .before .before .before .before .before .before .before .before .before .before .before .before .before .before .before .before .before .before .before .before .before .before in
-    all-lines (b29 .pre .1 .0) (c .write-lines .ensures)
+    let b28 = c .before .before .before .before .before .before .before .before .before .before .before .before .before .before .before .before .before .before .before .before .before .before .before .before .before .before .before .before in
+    all-lines (b28 .pre .1 .0) (c .write-lines .ensures)
 
 add-write-lines-2 : tie.Need-add-write-lines-2 Inv-loop μ-loop
 add-write-lines-2 c =
     let b1 = c .before in
-    let b23 = b1 .before .before .before .before .before .before .before .before .before .before .before .before .before .before .before .before .before .before .before .before .before .before in
-    let f = b23 .pre .1 .0 .few-namings in
+    let b22 = b1 .before .before .before .before .before .before .before .before .before .before .before .before .before .before .before .before .before .before .before .before .before in
+    let f = b22 .pre .1 .0 .few-namings in
     let h = b1 .if1 .left in
     omega arith
 
@@ -116,16 +116,16 @@ write-lines-requires-2 c κs =
     let b2 = c .before .before in
     let b6 = b2 .before .before .before .before in
     let b8 = b6 .before .before in
-    let b24 = b8 .before .before .before .before .before .before .before .before .before .before .before .before .before .before .before .before in
-    page-next (b24 .pre .1 .0) (b8 .loop .inv) (b6 .fill-page .ensures) (b2 .if1 .left)
+    let b23 = b8 .before .before .before .before .before .before .before .before .before .before .before .before .before .before .before in
+    page-next (b23 .pre .1 .0) (b8 .loop .inv) (b6 .fill-page .ensures) (b2 .if1 .left)
 
 loop-less : tie.Need-loop-less Inv-loop μ-loop
 loop-less c =
     let b3 = c .before .before .before in
     let b7 = b3 .before .before .before .before in
     let b9 = b7 .before .before in
-    let b25 = b9 .before .before .before .before .before .before .before .before .before .before .before .before .before .before .before .before in
-    let l = page-less (b25 .pre .1 .0) (b9 .loop .inv) (b7 .fill-page .ensures) (b3 .if1 .left) in
+    let b24 = b9 .before .before .before .before .before .before .before .before .before .before .before .before .before .before .before in
+    let l = page-less (b24 .pre .1 .0) (b9 .loop .inv) (b7 .fill-page .ensures) (b3 .if1 .left) in
     let i = b9 .loop .inv .counts in
     let h = b3 .if1 .left in
     omega arith
@@ -136,11 +136,11 @@ loop-again c =
     let b7 = b3 .before .before .before .before in
     let b9 = b7 .before .before in
     let b13 = b9 .before .before .before .before in
-    let b25 = b13 .before .before .before .before .before .before .before .before .before .before .before .before in
-    let p = b25 .pre .1 in
+    let b24 = b13 .before .before .before .before .before .before .before .before .before .before .before in
+    let p = b24 .pre .1 in
     let q = p .1 .1 .1 .0 in
     let k = b13 .put-heading .kept .0 in
-    printing-next (p .0) (b9 .loop .inv) (b7 .fill-page .ensures) (b3 .if1 .left) (omega arith) (b7 .fill-page .kept .1 .1 .1 .1 .1 .1 .1 .1 .1 .1 .1 .0) (c .write-lines2 .ensures)
+    printing-next (p .0) (b9 .loop .inv) (b7 .fill-page .ensures) (b3 .if1 .left) (omega arith) (b7 .fill-page .kept .1 .1 .1 .1 .1 .1 .1 .1 .1 .1 .0) (c .write-lines2 .ensures)
 
 pub write-pages-spec : {M : Type 1} → statement M
 write-pages-spec =

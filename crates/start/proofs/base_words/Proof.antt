@@ -1,32 +1,49 @@
--- `base_words` meets its contract: after k turns the first k words of base are done. Assumes nothing.
+-- `base_words` meets its contract: after k turns the first k words of each half are done. Assumes nothing.
+use mathlib.Core.Bool.{not, _&&_}
 use Prim.Native.Nat.{_-_}
+use native.Mathlib.Omega.{arith}
 use borrow.Author.Needs.{needs}
-use Rattle.wordset.proofs.Filling.{Filling, begins, ends, goes}
-use Rattle.wordset.proofs.PackLaws.{packWord}
-use Rattle.wordset.proofs.AnswersLaws.{answers-word}
-use Rattle.start.specs.Starts.{inBase}
+use Rattle.wordset.proofs.AnswersLaws.{and-answers, minus-answers}
+use Rattle.start.specs.Starts.{hasNone, inBase}
+use Rattle.start.proofs.NamedWords.{Halved, halved-end, halved-on, halved-start, second-at}
 use Rattle.start.proofs.base_words.Statement.{statement}
 use Rattle.start.proofs.base_words.Tie as tie
 
 abbrev Inv-loop : tie.InvT-loop
-Inv-loop ms ln tw w globals values base₀ k₀ base k = Filling (packWord (inBase ms ln globals values)) base₀ w base k
+Inv-loop ms ln tw w globals values names base₀ k₀ base k = Halved (λ t. inBase ms ln globals values t && hasNone names t) (λ t. inBase ms ln globals values t && not (hasNone names t)) base₀ w base k
 
 abbrev μ-loop : tie.MeasureT-loop
-μ-loop ms ln tw w globals values base₀ k₀ base k = w - k
+μ-loop ms ln tw w globals values names base₀ k₀ base k = w - k
 
 loop-holds : tie.Need-loop-holds Inv-loop μ-loop
-loop-holds c = begins
+loop-holds c = halved-start
 
 base-word-requires : tie.Need-base-word-requires Inv-loop μ-loop
 base-word-requires c κs =
-    let b8 = c .before .before .before .before .before .before .before .before in
-    (b8 .pre .0, ((c .loop-test .taken, b8 .pre .1 .0 .1), b8 .pre .1 .1))
+    let p = c .before .before .before .before .before .before .before .before .before .pre in
+    (p .0, ((c .loop-test .taken, (let n = p .1 .1 .1 .1 .narrow in omega arith)), (p .1 .1 .0, p .1 .1 .1 .0)))
+
+free-word-requires : tie.Need-free-word-requires Inv-loop μ-loop
+free-word-requires c κs =
+    let p = c .before .before .before .before .before .before .before .before .before .before .pre .1 .1 .1 .1 in
+    λ i h. (let l = p .within i h in let n = p .narrow in omega arith)
 
 mul-base : tie.Need-mul-base Inv-loop μ-loop
 mul-base c = search needs
 
 slice-write-base : tie.Need-slice-write-base Inv-loop μ-loop
 slice-write-base c = search needs
+
+add-base : tie.Need-add-base Inv-loop μ-loop
+add-base c = search needs
+
+mul-base-2 : tie.Need-mul-base-2 Inv-loop μ-loop
+mul-base-2 c = search needs
+
+slice-write-base-2 : tie.Need-slice-write-base-2 Inv-loop μ-loop
+slice-write-base-2 c =
+    let b3 = c .before .before .before in
+    second-at (b3 .loop .inv) (c .before .before .loop-test .taken) (b3 .before .before .before .before .before .before .before .before .pre .1 .0) _
 
 add-k : tie.Need-add-k Inv-loop μ-loop
 add-k c = search needs
@@ -35,13 +52,19 @@ loop-less : tie.Need-loop-less Inv-loop μ-loop
 loop-less c = search needs
 
 loop-again : tie.Need-loop-again Inv-loop μ-loop
-loop-again c = goes _ (c .before .before .loop .inv) (c .before .loop-test .taken) (answers-word (c .base-word .ensures))
+loop-again c =
+    let b3 = c .before .before .before in
+    let b4 = b3 .before in
+    let b11 = b4 .before .before .before .before .before .before .before in
+    halved-on (b3 .loop .inv) (c .before .before .loop-test .taken) (b11 .pre .1 .0) (and-answers (c .before .base-word .ensures) (c .free-word .ensures)) (minus-answers (c .before .base-word .ensures) (c .free-word .ensures))
 
 same-length : tie.Need-same-length Inv-loop μ-loop
 same-length c = c .before .loop .inv .long
 
 returns : tie.Need-returns Inv-loop μ-loop
-returns c = ends (c .before .loop .inv) (c .loop-test .left)
+returns c =
+    let e = halved-end (c .before .loop .inv) (c .loop-test .left) in
+    record { free = λ t h. e t h .0; named = λ t h. e t h .1 }
 
 pub base-words-spec : {M : Type 1} → statement M
 base-words-spec =
@@ -51,8 +74,12 @@ base-words-spec =
     μ-loop
     loop-holds
     base-word-requires
+    free-word-requires
     mul-base
     slice-write-base
+    add-base
+    mul-base-2
+    slice-write-base-2
     add-k
     loop-less
     loop-again
