@@ -44,7 +44,7 @@ uint8_t lockgraph_table(const uint8_t *sheet, size_t sheet_len, uint64_t naming,
                         uint64_t out[5]);
 
 /* The surviving types under every naming: those under naming r are the W words from word r * W of the store, which has W words or more for each naming.
- * 16,384 words are always enough (at most 4,096 namings).
+ * 65,536 words are always enough (at most 16,384 namings).
  * out, 2 words: how many namings there are; W. */
 uint8_t lockgraph_book(const uint8_t *sheet, size_t sheet_len, uint64_t *store, size_t store_len, uint64_t out[2]);
 

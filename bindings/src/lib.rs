@@ -29,7 +29,7 @@ pub use refusal::Refusal;
 pub const TABLE_WORDS: usize = 4;
 
 /// So many words are always enough for [`book`].
-pub const BOOK_WORDS: usize = 16_384;
+pub const BOOK_WORDS: usize = 65_536;
 
 /// So many numbers are always enough for [`list`].
 pub const LIST_NUMBERS: usize = 256;
@@ -66,7 +66,7 @@ pub struct Table<'a> {
 pub struct Book<'a> {
     /// The surviving types under all namings, one naming after the other: the beginning of the store.
     pub words: &'a [u64],
-    /// How many namings there are, 1 to 4,096.
+    /// How many namings there are, 1 to 16,384.
     pub namings: u64,
     /// How many words each naming has: 1, 2 or 4.
     pub words_each: usize,
@@ -77,7 +77,7 @@ impl<'a> Book<'a> {
     ///
     /// ```
     /// let sheet = b"v f\nname field\ngoal EX{f}v\n";
-    /// let mut store = [0; lockgraph::BOOK_WORDS];
+    /// let mut store = vec![0; lockgraph::BOOK_WORDS];
     /// let book = lockgraph::book(sheet, &mut store)?;
     /// assert_eq!(book.under(1), Some(&book.words[1..2]));
     /// assert_eq!(book.under(book.namings), None);
@@ -157,7 +157,7 @@ pub fn table<'a>(
 /// use lockgraph::{book, Refusal, BOOK_WORDS};
 ///
 /// let sheet = b"v f\nname field\ngoal EX{f}v\n";
-/// let mut store = [7; BOOK_WORDS];
+/// let mut store = vec![7; BOOK_WORDS];
 /// let book = book(sheet, &mut store)?;
 /// assert_eq!((book.namings, book.words_each), (2, 1));
 /// assert_eq!(book.words.len(), 2);

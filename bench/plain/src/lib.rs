@@ -44,18 +44,17 @@ pub struct Table {
     pub rounds: u32,
 }
 
-/// A sheet as read: its closure and formulas, and its lean, split into the places of names and of others.
+/// A sheet as read: its closure and formulas, its lean, and which of the lean's places are names.
 pub struct Reading {
     members: Vec<Member>,
     roots: Vec<u8>,
     lean: Vec<u8>,
     names: Vec<usize>,
-    others: Vec<usize>,
 }
 
 impl Reading {
     fn namings(&self) -> u64 {
-        1 << (self.names.len() * self.others.len())
+        1 << (self.names.len() * self.lean.len().saturating_sub(1))
     }
 }
 
@@ -69,13 +68,12 @@ pub fn read(bytes: &[u8]) -> Result<Reading, Refusal> {
         Member::Letter(letter) => sheet.symbols.kinds[usize::from(letter)] == Kind::Name,
         _ => false,
     };
-    let (names, others) = (0..lean.len()).partition(named);
+    let names = (0..lean.len()).filter(named).collect();
     Ok(Reading {
         roots: closure.roots,
         members,
         lean,
         names,
-        others,
     })
 }
 

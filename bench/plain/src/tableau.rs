@@ -49,9 +49,11 @@ pub struct Tableau<const W: usize> {
     links: [Vec<Family<W>>; 16],
     nexts: Vec<Next>,
     untils: Vec<Until>,
-    base: Family<W>,
-    names: Vec<Family<W>>,
-    others: Vec<Family<W>>,
+    /// The types that make the globals true: those without a name, and those with one.
+    free: Family<W>,
+    named: Family<W>,
+    names: Vec<usize>,
+    places: usize,
     goal: usize,
 }
 
@@ -65,14 +67,18 @@ impl<const W: usize> Tableau<W> {
             .fold(family::below(reading.lean.len()), |types, &g| {
                 family::and(&types, &truth[usize::from(g)])
             });
+        let some = reading.names.iter().fold(family::none(), |types, &p| {
+            family::or(&types, &family::place(p))
+        });
         let nexts = nexts(members);
         Tableau {
             links: links(members, &nexts, &truth, 1 << reading.lean.len()),
             nexts,
             untils: untils(members),
-            base,
-            names: reading.names.iter().map(|&p| family::place(p)).collect(),
-            others: reading.others.iter().map(|&p| family::place(p)).collect(),
+            free: family::less(&base, &some),
+            named: family::and(&base, &some),
+            names: reading.names.clone(),
+            places: reading.lean.len(),
             goal: usize::from(*goal),
             truth,
         }
@@ -102,19 +108,27 @@ impl<const W: usize> Tableau<W> {
         family::first(&family::and(types, &self.truth[self.goal]))
     }
 
+    /// The one type that has a name under a naming: the name's set, with the name's place put in.
+    fn named_type(&self, naming: u64, i: usize) -> usize {
+        let bits = self.places - 1;
+        let set = (naming >> (bits * i)) as usize & ((1 << bits) - 1);
+        let v = self.names[i];
+        ((set >> v) * 2 + 1) << v | set & ((1 << v) - 1)
+    }
+
+    fn obeys(&self, naming: u64, t: usize) -> bool {
+        (0..self.names.len())
+            .all(|i| t >> self.names[i] & 1 == 0 || t == self.named_type(naming, i))
+    }
+
+    /// The types without a name, and for each name its own type, if that obeys.
     fn start(&self, naming: u64) -> Family<W> {
-        let mut types = self.base;
-        let mut rest = naming;
-        for name in &self.names {
-            let mut fits = [u64::MAX; W];
-            for place in &self.others {
-                fits = match rest & 1 {
-                    1 => family::and(&fits, place),
-                    _ => family::less(&fits, place),
-                };
-                rest >>= 1;
+        let mut types = self.free;
+        for i in 0..self.names.len() {
+            let t = self.named_type(naming, i);
+            if family::has(&self.named, t) && self.obeys(naming, t) {
+                types[t / 64] |= 1 << (t % 64);
             }
-            types = family::map(&types, &family::less(name, &fits), |x, y| x & !y);
         }
         types
     }

@@ -5,12 +5,14 @@
 //! it, with `out` for a further store. The calls come in blocks, and a block is the same for the same seed and number.
 
 mod calls;
+mod names;
 mod rules;
 mod second;
 mod seen;
 mod sheets;
 mod spelling;
 mod stores;
+mod text;
 mod told;
 mod values;
 

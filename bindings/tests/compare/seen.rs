@@ -1,19 +1,22 @@
 //! Which outcomes the calls had, so that nothing passes for want of calls.
 
+use super::names::{self, NAMES};
 use super::sheets::Sheet;
 use super::spelling::{self, SPELLINGS};
 use super::values::{self, VALUES};
 use std::collections::BTreeMap;
 use std::fmt;
 
-/// How often each operation had each outcome, how many sheets had each spelling and each declaration of values, and how many calls were
-/// about accepted sheets with values. An outcome is a refusal's number, or 0.
+/// How often each operation had each outcome, how many sheets had each spelling and each declaration of values and names, and how many
+/// calls were about accepted sheets with values, or with two names that occur. An outcome is a refusal's number, or 0.
 #[derive(Default)]
 pub struct Seen {
     counts: BTreeMap<(&'static str, u8), u64>,
     spellings: [u64; SPELLINGS.len()],
     values: [u64; VALUES.len()],
     about_values: u64,
+    names: [u64; NAMES.len()],
+    about_names: u64,
 }
 
 impl Seen {
@@ -34,6 +37,12 @@ impl Seen {
         for place in values {
             self.values[place] += 1;
         }
+        for place in names::names(sheet, outcome) {
+            self.names[place] += 1;
+            if NAMES[place].0 == "two names that occur" {
+                self.about_names += calls;
+            }
+        }
     }
 
     /// Adds what others have seen.
@@ -48,6 +57,10 @@ impl Seen {
             self.values[place] += count;
         }
         self.about_values += other.about_values;
+        for (place, count) in other.names.iter().enumerate() {
+            self.names[place] += count;
+        }
+        self.about_names += other.about_names;
     }
 
     pub fn calls(&self) -> u64 {
@@ -61,12 +74,14 @@ impl Seen {
             .collect()
     }
 
-    /// The spellings and the declarations of values, each with its outcome, and how many sheets had them.
+    /// The spellings and the declarations of values and names, each with its outcome, and how many sheets had them.
     fn shapes(&self) -> impl Iterator<Item = (&'static str, u8, u64)> + '_ {
         let spellings = SPELLINGS.iter().zip(self.spellings);
         let values = VALUES.iter().zip(self.values);
+        let names = NAMES.iter().zip(self.names);
         spellings
             .chain(values)
+            .chain(names)
             .map(|(&(shape, outcome), count)| (shape, outcome, count))
     }
 
@@ -80,7 +95,7 @@ impl Seen {
 }
 
 impl fmt::Display for Seen {
-    /// A line for each operation, for each spelling and declaration of values, and for the calls about values.
+    /// A line for each operation, for each spelling and declaration, and for the calls about values and about two names.
     fn fmt(&self, f: &mut fmt::Formatter<'_>) -> fmt::Result {
         let mut line = "";
         for ((operation, number), count) in &self.counts {
@@ -108,6 +123,11 @@ impl fmt::Display for Seen {
             f,
             "{} calls about accepted sheets with values",
             self.about_values
+        )?;
+        writeln!(
+            f,
+            "{} calls about accepted sheets with two names that occur",
+            self.about_names
         )
     }
 }

@@ -53,8 +53,9 @@ pub fn sound(c: &mut Chance) -> Sheet {
         0 => many_namings(c),
         1..=256 => pressed(c),
         257..=576 => in_words(c),
-        700..=860 => with_values(c),
         577..=640 => respelt(c),
+        700..=860 => with_values(c),
+        861..=960 => with_names(c),
         _ => {
             let size = c.between(2, 10);
             Sheet::of(&generate::sound(c, size, NAMINGS))
@@ -79,6 +80,17 @@ fn in_words(c: &mut Chance) -> Sheet {
 fn with_values(c: &mut Chance) -> Sheet {
     let level = rules().level;
     Sheet::of(&requested::sound(c, Wish { level, focus: 3 }))
+}
+
+/// One with two names, mostly.
+fn with_names(c: &mut Chance) -> Sheet {
+    let level = rules().level;
+    loop {
+        let sheet = Sheet::of(&requested::sound(c, Wish { level, focus: 4 }));
+        if sheet.has_at_most(4 * NAMINGS) {
+            return sheet;
+        }
+    }
 }
 
 /// One with much to strike, or any in words, with a symbol of it spelt otherwise in all places.

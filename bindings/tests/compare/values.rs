@@ -1,6 +1,7 @@
 //! Values: nodes of a snapshot that hold none or several of them, and which declarations of values a sheet has.
 
 use super::sheets::Sheet;
+use super::text::Text;
 use second_checker::generate::{self, Chance};
 use second_checker::sheet::Kind;
 use second_checker::Refusal;
@@ -59,67 +60,18 @@ pub const VALUES: [(&str, Refusal); 6] = [
 
 /// Which of these a sheet has, by their places.
 pub fn values(sheet: &Sheet, outcome: Refusal) -> Vec<usize> {
-    let text = String::from_utf8_lossy(&sheet.bytes);
-    let lines: Vec<&str> = text.lines().collect();
-    let (Some(symbols), Some(kinds)) = (lines.first(), lines.get(1)) else {
-        return vec![];
-    };
-    let symbols: Vec<&str> = symbols.split(' ').collect();
-    let kinds: Vec<&str> = kinds.split(' ').collect();
-    let declared: Vec<&str> = symbols
-        .iter()
-        .zip(&kinds)
-        .filter(|(_, &kind)| kind == "value")
-        .map(|(&symbol, _)| symbol)
-        .collect();
-    let formulas: Vec<&str> = lines
-        .iter()
-        .skip(2)
-        .filter_map(|line| line.split_once(' '))
-        .map(|(_, formula)| formula)
-        .collect();
-    let has_run = |runs: &dyn Fn(&str) -> Vec<String>, symbol: &str| {
-        formulas
-            .iter()
-            .any(|formula| runs(formula).iter().any(|run| run == symbol))
-    };
+    let text = Text::of(&sheet.bytes);
+    let declared = text.declared("value");
     let some = !declared.is_empty();
     let has = [
         some,
         declared.len() == 1,
-        declared.iter().any(|symbol| !has_run(&outside, symbol)),
-        some && kinds.contains(&"name"),
+        declared.iter().any(|symbol| !text.occurs(symbol)),
+        some && !text.declared("name").is_empty(),
         some,
-        declared.iter().any(|symbol| has_run(&in_braces, symbol)),
+        declared.iter().any(|symbol| text.in_braces(symbol)),
     ];
     (0..has.len())
         .filter(|&place| has[place] && VALUES[place].1 == outcome)
-        .collect()
-}
-
-/// The runs of lower-case letters outside braces.
-fn outside(formula: &str) -> Vec<String> {
-    let plain: Vec<&str> = formula
-        .split('{')
-        .map(|part| part.split_once('}').map_or(part, |(_, after)| after))
-        .collect();
-    letters(&plain.join(" "))
-}
-
-/// Those in braces, a capital at the beginning read as a small letter.
-fn in_braces(formula: &str) -> Vec<String> {
-    let inner: Vec<&str> = formula
-        .split('{')
-        .skip(1)
-        .filter_map(|part| part.split_once('}'))
-        .map(|(modes, _)| modes)
-        .collect();
-    letters(&inner.join(" ").to_ascii_lowercase())
-}
-
-fn letters(text: &str) -> Vec<String> {
-    text.split(|letter: char| !letter.is_ascii_lowercase())
-        .filter(|run| !run.is_empty())
-        .map(String::from)
         .collect()
 }

@@ -17,8 +17,9 @@ use Rattle.ctl.specs.Types.{inType, truth}
 use Rattle.ctl.specs.Tableau.{Tableau, tableauOf, isName, namePlaces, placesBut, setBits, namings, obeysFrom, obeys, oneHeld, valued, valuePlaces, starts, startTypes}
 use Rattle.ctl.specs.Verdict.{familyOf, roundsOf, survivingTypes, goalTypes, Verdict, open′, verdictOver, verdict}
 use Rattle.ctl.specs.Judging.{formerStart, familyFrom, roundsFrom, survivorsFrom, verdictFrom, JudgedFrom}
+use Rattle.ctl.specs.Demand3.{Fits}
 use Rattle.ctl.specs.Published
-use Rattle.ctl.proofs.BoolLaws.{T-true, both-ways}
+use Rattle.ctl.proofs.BoolLaws.{T-cast, T-cast⁻, T-true, both-ways}
 use Rattle.ctl.proofs.ListLaws.{keep-same, below-out, kept-below}
 use Rattle.ctl.proofs.NamingLaws.{name-lt, but-length}
 
@@ -97,10 +98,13 @@ module _ (S : Tableau) where
   same-bits (v ∷ (w ∷ vs)) e h = absurd (omega arith)
 
   module _ (few : length (namePlaces S) ≤ 1) where
-    -- a type obeys as published, so the namings that fit a snapshot are the published ones
+    -- a type obeys as published, so the same namings fit a snapshot
     pub one-obeys : (r t : ℕ) → obeys S r t ≡ Published.obeys S r t
     unfolding obeys Published.obeys
     one-obeys r t = same-obeys (namePlaces S) refl few r t
+
+    pub one-fits : (r : ℕ) (s : Snapshot) → Fits S r s ↔ Published.Fits S r s
+    one-fits r s = (λ f i t l n. T-cast (one-obeys r t) (f i t l n), λ f i t l n. T-cast⁻ (one-obeys r t) (f i t l n))
 
     one-namings : namings S ≡ Published.namings S
     unfolding namings Published.namings

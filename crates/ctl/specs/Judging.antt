@@ -28,7 +28,7 @@ module _ (cl ln : List Form) (start : ℕ → List ℕ) where
   verdictFrom goal [] = unsatisfiable
   verdictFrom goal (r ∷ rs) = let later = verdictFrom goal rs in elim (keep (λ t. truth ln t goal) (survivorsFrom r)) [ [] ↦ later | t ∷ ts ↦ open′ r t ]
 
--- document 01's start types: those that obey the naming and make all globals true
+-- document 01's start types: those that obey the naming, by the test that is given, and make all globals true
 unfoldable pub formerStart : Tableau → (ℕ → ℕ → Bool) → ℕ → List ℕ
 unfolding truth
 formerStart S obeys r = keep (λ t. obeys r t && allOf (truth (S .ln) t) (S .globals)) (below (2 ^ length (S .ln)))

@@ -21,7 +21,7 @@ pub mod ClosedFamily
 pub mod Elimination
 pub mod Verdict
 pub mod Judging
-pub mod Published
 pub mod Demand3
+pub mod Published
 pub mod Evaluator
 pub mod Former

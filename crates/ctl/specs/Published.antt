@@ -1,14 +1,16 @@
--- Document 01's namings as published, before request 4: a name's set covers the lean places that are no names. Where at most one name occurs they are those of Tableau
--- (`one-name`, proofs/Unchanged). Assumes nothing.
+-- Document 01's namings as published, before request §4: a name's set covers the lean places that are no names. Where at most one name occurs they are those of Tableau: what
+-- proofs/Unchanged says, which alone cites this, beside a computed sheet. Assumes nothing.
 use mathlib.Core.Bool.{Bool, true, not, _&&_}
 use mathlib.Core.List.{List, [], _∷_}
-use Prim.Native.Nat.{ℕ, _*_, _/_, _%_, _^_}
+use Prim.Native.Nat.{ℕ, _*_, _/_, _%_, _^_, _<_}
 use lib.ListN.{length, getD}
-use lib.Dec.{eqb}
+use lib.Dec.{T, eqb}
 use Rattle.ctl.specs.Lists.{allOf, keep, imp, below}
 use Rattle.ctl.specs.Formula.{tru}
+use Rattle.ctl.specs.Snapshot.{Snapshot}
 use Rattle.ctl.specs.Types.{inType, truth}
 use Rattle.ctl.specs.Tableau.{Tableau, isName, namePlaces, pack, valued}
+use Rattle.ctl.specs.Demand3.{NodeType}
 
 module _ (S : Tableau) where
   -- the lean places that are no names
@@ -41,3 +43,7 @@ module _ (S : Tableau) where
   unfoldable pub startTypes : ℕ → List ℕ
   unfolding starts
   startTypes r = keep (starts r) (below (2 ^ length (S .ln)))
+
+  -- naming r fits the snapshot: each occurring name that a node carries has the non-name places of the node's type
+  abbrev pub Fits : ℕ → Snapshot → Type 0
+  Fits r s = (i t : ℕ) → i < s .n → NodeType S s i t → T (obeys r t)

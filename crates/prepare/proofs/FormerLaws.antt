@@ -1,8 +1,9 @@
--- Sheets without values give what they gave: their places and tableau are document 01's, and start types, families, rounds, survivors and verdict are judged as there. With symbols of
--- single letters besides, their tableau is the one by letters. Assumes nothing.
+-- What sheets keep that have nothing of what a request brings. Without values their places and tableau are document 01's, and where at most one name occurs so are namings, start types,
+-- families, rounds, survivors and verdict; with symbols of single letters besides, their tableau is the one by letters. Assumes nothing.
 use mathlib.Core.Path.{_≡_, refl, ap, _∙_, subst}
+use mathlib.Core.Logic.{_↔_}
 use mathlib.Core.List.{List, [], _∷_, _++_, map, List·Memᴰ·head, Memᴰ·append-left, Memᴰ·append-right}
-use Prim.Native.Nat.{ℕ, _<_}
+use Prim.Native.Nat.{ℕ, _≤_, _<_}
 use native.Mathlib.Omega.{arith}
 use lib.ListN.{length, getD}
 use Rattle.ctl.specs.Lists.{_∈_}
@@ -10,15 +11,17 @@ use Rattle.ctl.specs.Formula.{Form}
 use Rattle.ctl.specs.Positive.{positive}
 use Rattle.ctl.specs.Closure.{closure}
 use Rattle.ctl.specs.Lean.{withValues, lean}
-use Rattle.ctl.specs.Tableau.{tableauOf, namings, obeys}
+use Rattle.ctl.specs.Snapshot.{Snapshot}
+use Rattle.ctl.specs.Tableau.{tableauOf, namePlaces, namings, obeys}
 use Rattle.ctl.specs.Judging.{formerStart, JudgedFrom}
-use Rattle.ctl.specs.Demand3.{sheetTableau}
-use Rattle.ctl.proofs.Unchanged.{tableau-without, without-values}
+use Rattle.ctl.specs.Demand3.{Fits, sheetTableau}
+use Rattle.ctl.specs.Published
+use Rattle.ctl.proofs.Unchanged.{as-published, one-fits, one-name, tableau-without, without-values}
 use Rattle.ctl.specs.Former.{formerTableau}
 use Rattle.ctl.proofs.FormerLaws.{tableau-former}
 use Rattle.layout.specs.Text.{split as words}
 use Rattle.layout.specs.Layout.{lineOf}
-use Rattle.head.specs.Head.{space, spellings, kinds}
+use Rattle.head.specs.Head.{space, spellings, kinds, nameCount}
 use Rattle.head.specs.Former.{NoValue, formerKinds}
 use Rattle.head.proofs.FormerLaws.{kinds-former}
 use Rattle.head.proofs.Spellings.{sheet-spellings}
@@ -29,6 +32,7 @@ use Rattle.sheet.proofs.FormerLaws.{no-values}
 use Rattle.reader.specs.Reader.{members, places}
 use Rattle.prepare.specs.Prepared.{tableauIn}
 use Rattle.prepare.proofs.Bridge.{globals-goal, formulas-some}
+use Rattle.prepare.proofs.NameCount.{names-declared}
 
 -- every symbol has one letter
 abbrev pub Single : List ℕ → Type 0
@@ -76,6 +80,28 @@ module _ (s : List ℕ) (none : WithoutValues s) where
   -- its start types are those that obey the naming and make all globals true, and everything else comes from these
   pub judged-before : JudgedFrom (tableauIn s) (formerStart (tableauIn s) (obeys (tableauIn s))) (namings (tableauIn s))
   judged-before = without-values (tableauIn s) values-before
+
+-- ---- where at most one name occurs
+
+-- of the lean's places at most one is a name
+abbrev pub OneName : List ℕ → Type 0
+OneName s = length (namePlaces (tableauIn s)) ≤ 1
+
+-- so in every sheet that declares at most one
+pub one-declared : (s : List ℕ) → nameCount (kinds s) ≤ 1 → OneName s
+one-declared s h = let a = names-declared s in omega arith
+
+module _ (s : List ℕ) (one : OneName s) where
+  -- namings, start types, families, rounds, survivors and verdict are the published ones, and the same namings fit a snapshot
+  pub judged-published : JudgedFrom (tableauIn s) (Published.startTypes (tableauIn s)) (Published.namings (tableauIn s))
+  judged-published = one-name (tableauIn s) one
+
+  pub fits-published : (r : ℕ) (g : Snapshot) → Fits (tableauIn s) r g ↔ Published.Fits (tableauIn s) r g
+  fits-published = one-fits (tableauIn s) one
+
+  -- without values they are document 01's
+  pub judged-document : WithoutValues s → JudgedFrom (tableauIn s) (formerStart (tableauIn s) (Published.obeys (tableauIn s))) (Published.namings (tableauIn s))
+  judged-document none = as-published (tableauIn s) one (values-before s none)
 
 -- ---- with symbols of single letters
 

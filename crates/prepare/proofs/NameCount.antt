@@ -91,16 +91,19 @@ module _ (s : List ℕ) where
   unfolding sheetTableau
   proper = tableau-proper (spellOf s) (isNameOf s) (valuesIn s) (map positive (globalsOf (formulas s))) (positive (goalOf (formulas s)) ∷ [])
 
-  pub names-two : length (namePlaces S) ≤ 2
+  -- at most as many names occur as are declared, so at most two
+  pub names-declared : length (namePlaces S) ≤ nameCount (kinds s)
   unfolding namePlaces
-  names-two =
+  names-declared =
       let a = keep-places (isName S) tru (S .ln) in
       let b = unique-length (keep (isName S) (S .ln)) (map lit symbols) (keep-unique (isName S) (S .ln) (proper .once)) (λ p m. name-in p (keep-out (isName S) (S .ln) m .1)) in
       let c = length-map symbols lit in
       let d = keep-places (λ k. eqb k 2) 0 (kinds s) in
       let e = count-keep (kinds s) in
-      let f = kinds-two s in
       omega arith
+
+  pub names-two : length (namePlaces S) ≤ 2
+  names-two = let a = names-declared in let b = kinds-two s in omega arith
 
   -- how many values there are, and each place is below the lean's width
   pub values-few : length (valuePlaces S) ≤ length (S .ln)
