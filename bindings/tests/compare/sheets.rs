@@ -55,7 +55,7 @@ pub fn sound(c: &mut Chance) -> Sheet {
         257..=576 => in_words(c),
         577..=640 => respelt(c),
         700..=860 => with_values(c),
-        861..=960 => with_names(c),
+        861..=1000 => with_names(c),
         _ => {
             let size = c.between(2, 10);
             Sheet::of(&generate::sound(c, size, NAMINGS))
@@ -177,14 +177,15 @@ fn damaged_words(c: &mut Chance) -> Sheet {
     Sheet::of(&requested::damaged(c, wish))
 }
 
-/// Symbols in words that are spelt otherwise in places, have a capital somewhere, or are typed together; or two of these.
+/// Symbols in words that are spelt otherwise in places, have a capital somewhere, are typed together or too long; or two of these.
 fn misspelt(c: &mut Chance) -> Sheet {
     let mut sheet = in_words(c);
     for _ in 0..c.between(1, 2) {
-        sheet = match c.below(3) {
+        sheet = match c.below(4) {
             0 => spelling::respelt(c, sheet),
             1 => spelling::capital(c, sheet),
-            _ => spelling::joined(c, sheet),
+            2 => spelling::joined(c, sheet),
+            _ => spelling::overlong(c, sheet),
         };
     }
     sheet

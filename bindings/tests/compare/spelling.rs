@@ -90,6 +90,20 @@ fn stretched(c: &mut Chance, symbol: &str) -> String {
     letters
 }
 
+/// A run in a formula stretched to one letter more than a symbol may have.
+pub fn overlong(c: &mut Chance, mut sheet: Sheet) -> Sheet {
+    let mut runs = runs(&sheet.bytes);
+    runs.retain(|run| run.in_formula);
+    if runs.is_empty() {
+        return sheet;
+    }
+    let run = runs.swap_remove(c.below(runs.len()));
+    let missing = (LETTERS + 1).saturating_sub(run.at.len());
+    let end = run.at.end;
+    sheet.bytes.splice(end..end, vec![b'z'; missing]);
+    sheet
+}
+
 /// A letter, or every letter, of a run in a formula in capital.
 pub fn capital(c: &mut Chance, mut sheet: Sheet) -> Sheet {
     let mut runs = runs(&sheet.bytes);
