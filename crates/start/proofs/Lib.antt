@@ -1,2 +1,5 @@
 pub mod StartWords
-pub mod NamedWords
+pub mod NamedNumbers
+pub mod Halves
+pub mod Starting
+pub mod StartLaws

@@ -1,4 +1,4 @@
--- What the words hold is what ctl's tableau has: start types, rounds, surviving types, the types that have the goal. Assumes nothing.
+-- What the words hold is what ctl's tableau has: start types, rounds, surviving types. Assumes nothing.
 use mathlib.Core.Path.{_≡_, refl, sym, ap, ap₂, _∙_, subst}
 use mathlib.Core.Bool.{Bool, _&&_, _||_}
 use mathlib.Core.List.{List, [], _∷_, List·Memᴰ·head}
@@ -34,7 +34,7 @@ use Rattle.truth.specs.Truths.{Tr, trueAt}
 use Rattle.tableau.specs.Families.{Rounds, Survivors}
 use Rattle.truth.specs.Blocks.{listOf}
 use Rattle.start.specs.Starts.{Based, fitsName, hasOne, inBase, namedType, obeysBy, startList, startsBy}
-use Rattle.start.proofs.NamedWords.{based-starts}
+use Rattle.start.proofs.StartLaws.{based-starts}
 use Rattle.tableau.specs.Tabled.{Tabled}
 use Rattle.tableau.specs.Matches.{Matches}
 use Rattle.truth.proofs.ListWords.{all-list, count-places, held, list-packed}

@@ -6,7 +6,7 @@ use borrow.Author.Needs.{needs}
 use borrow.Author.Tests.{not-false, not-true}
 use Rattle.wordset.specs.Words.{member}
 use Rattle.start.specs.Starts.{obeysBy}
-use Rattle.start.proofs.NamedWords.{join-none, join-one}
+use Rattle.start.proofs.Starting.{join-none, join-one}
 use Rattle.start.proofs.add_type.Statement.{statement}
 use Rattle.start.proofs.add_type.Tie as tie
 

@@ -5,7 +5,7 @@ use native.Mathlib.Omega.{arith}
 use borrow.Author.Needs.{needs}
 use Rattle.wordset.proofs.AnswersLaws.{and-answers, minus-answers}
 use Rattle.start.specs.Starts.{hasNone, inBase}
-use Rattle.start.proofs.NamedWords.{Halved, halved-end, halved-on, halved-start, second-at}
+use Rattle.start.proofs.Halves.{Halved, halved-end, halved-on, halved-start, second-at}
 use Rattle.start.proofs.base_words.Statement.{statement}
 use Rattle.start.proofs.base_words.Tie as tie
 

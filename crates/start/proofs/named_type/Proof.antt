@@ -1,7 +1,7 @@
 -- `named_type` meets its contract: no step overflows, and the sum is the set with the name's place put in. Assumes nothing.
 use native.Mathlib.Omega.{arith}
 use borrow.Author.Needs.{needs}
-use Rattle.start.proofs.NamedWords.{digit-at, high-lt, mask-pos, sum-is, sum-lt}
+use Rattle.start.proofs.NamedNumbers.{digit-at, high-lt, mask-pos, sum-is, sum-lt}
 use Rattle.start.proofs.named_type.Statement.{statement}
 use Rattle.start.proofs.named_type.Tie as tie
 

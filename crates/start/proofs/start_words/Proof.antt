@@ -4,7 +4,8 @@ use Prim.Native.Nat.{_-_}
 use native.Mathlib.Omega.{arith}
 use lib.ListN.{length}
 use borrow.Author.Needs.{needs}
-use Rattle.start.proofs.NamedWords.{Started, started-all, started-first, started-on, type-lt}
+use Rattle.start.proofs.NamedNumbers.{type-lt}
+use Rattle.start.proofs.Starting.{Started, started-all, started-first, started-on}
 use Rattle.start.proofs.start_words.Statement.{statement}
 use Rattle.start.proofs.start_words.Tie as tie
 
