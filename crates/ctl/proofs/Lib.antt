@@ -34,5 +34,6 @@ pub mod Demand3
 pub mod OrderLaws
 pub mod FormerLaws
 pub mod Unchanged
+pub mod Crossed
 pub mod Drawn
 pub mod DrawnSnapshots

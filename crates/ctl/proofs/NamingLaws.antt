@@ -24,10 +24,10 @@ use Rattle.ctl.proofs.FormulaLaws.{is-lit}
 use Rattle.ctl.proofs.EvaluatorLaws.{sat-lit}
 use Rattle.ctl.proofs.NodeTypes.{nodeType, type-place}
 
-digit-lt : (c k s r : ℕ) → s < 2 ^ c → r < 2 ^ (c * k) → r * 2 ^ c + s < 2 ^ (c * suc k)
+pub digit-lt : (c k s r : ℕ) → s < 2 ^ c → r < 2 ^ (c * k) → r * 2 ^ c + s < 2 ^ (c * suc k)
 digit-lt c k s r h l = rw (mul-suc c k, pow-add 2 (c * k) c) (omega (arith, mul-le-mul-right (2 ^ c) l))
 
-pack-lt : (l : List ℕ) (t : ℕ) → pack l t < 2 ^ length l
+pub pack-lt : (l : List ℕ) (t : ℕ) → pack l t < 2 ^ length l
 unfolding pack
 pack-lt l t = subst (λ k. pack l t < 2 ^ k) (length-map l (inType t)) (number-lt (map (inType t) l))
 

@@ -15,23 +15,18 @@ use Rattle.ctl.specs.Lean.{withValues, lean}
 use Rattle.ctl.specs.Snapshot.{Snapshot, ValuesSingle}
 use Rattle.ctl.specs.Types.{inType, truth}
 use Rattle.ctl.specs.Tableau.{Tableau, tableauOf, isName, namePlaces, placesBut, setBits, namings, obeysFrom, obeys, oneHeld, valued, valuePlaces, starts, startTypes}
-use Rattle.ctl.specs.Verdict.{familyOf, roundsOf, survivingTypes, goalTypes, Verdict, open′, verdictOver, verdict}
+use Rattle.ctl.specs.Verdict.{familyOf, roundsOf, survivingTypes, verdict}
 use Rattle.ctl.specs.Judging.{formerStart, familyFrom, roundsFrom, survivorsFrom, verdictFrom, JudgedFrom}
 use Rattle.ctl.specs.Demand3.{Fits}
 use Rattle.ctl.specs.Published
 use Rattle.ctl.proofs.BoolLaws.{T-cast, T-cast⁻, T-true, both-ways}
 use Rattle.ctl.proofs.ListLaws.{keep-same, below-out, kept-below}
 use Rattle.ctl.proofs.NamingLaws.{name-lt, but-length}
+use Rattle.ctl.proofs.VerdictLaws.{over-from}
 
 -- ---- judging goes by the start types and the number of namings alone
 
 module _ (S : Tableau) where
-  over-from : (goal : Form) (rs : List ℕ) → verdictOver S goal rs ≡ verdictFrom (S .cl) (S .ln) (startTypes S) goal rs
-  unfolding verdictOver goalTypes survivingTypes verdictFrom
-  over-from goal [] = refl
-  over-from goal (r ∷ rs) =
-      ap (λ v. elim (keep (λ t. truth (S .ln) t goal) (survivorsFrom (S .cl) (S .ln) (startTypes S) r)) as (λ x. Verdict) [ [] ↦ v | t ∷ ts ↦ open′ r t ]) (over-from goal rs)
-
   pub judged-from : (start : ℕ → List ℕ) (n : ℕ) → namings S ≡ n → ((r : ℕ) → startTypes S r ≡ start r) → JudgedFrom S start n
   unfolding familyOf roundsOf survivingTypes verdict
   judged-from start n e f =
@@ -42,7 +37,7 @@ module _ (S : Tableau) where
         families-are = λ r k. ap (λ g. familyFrom (S .cl) (S .ln) g r k) same;
         rounds-are = λ r. ap (λ g. roundsFrom (S .cl) (S .ln) g r) same;
         survivors-are = λ r. ap (λ g. survivorsFrom (S .cl) (S .ln) g r) same;
-        verdict-is = λ goal. over-from goal (below (namings S)) ∙ ap (λ g. verdictFrom (S .cl) (S .ln) g goal (below (namings S))) same ∙ ap (λ m. verdictFrom (S .cl) (S .ln) start goal (below m)) e;
+        verdict-is = λ goal. over-from S goal (below (namings S)) ∙ ap (λ g. verdictFrom (S .cl) (S .ln) g goal (below (namings S))) same ∙ ap (λ m. verdictFrom (S .cl) (S .ln) start goal (below m)) e;
       }
 
 -- ---- request 3: sheets without values

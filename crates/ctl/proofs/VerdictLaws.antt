@@ -5,14 +5,16 @@ use mathlib.Core.List.{List, [], _∷_, List·Memᴰ·head, List·Memᴰ·cases-
 use Prim.Native.Nat.{ℕ, zero, suc, _+_, _-_, _^_, _<_, _≤_}
 use native.Mathlib.Omega.{arith}
 use native.Mathlib.Decide.{decLe}
+use lib.Dec.{T}
 use lib.ListN.{length}
-use Rattle.ctl.specs.Lists.{_∈_, countFrom, below}
+use Rattle.ctl.specs.Lists.{_∈_, countFrom, below, keep}
 use Rattle.ctl.specs.Formula.{Form}
 use Rattle.ctl.specs.Types.{truth}
 use Rattle.ctl.specs.Elimination.{families}
 use Rattle.ctl.specs.Links.{linkBy}
 use Rattle.ctl.specs.Tableau.{Tableau, namings, starts, startTypes}
 use Rattle.ctl.specs.Verdict.{MeetsIn, ClosedIn, familyOf, roundsOf, survivingTypes, HasGoal, goalTypes, Verdict, unsatisfiable, open′, verdictOver, verdict, Opens}
+use Rattle.ctl.specs.Judging.{survivorsFrom, verdictFrom}
 use Rattle.ctl.proofs.ListLaws.{keep-in, keep-out, below-in, below-out, Ascending, ascending-count, ascending-keep, ascending-least}
 use Rattle.ctl.proofs.EliminationLaws
 use Rattle.ctl.proofs.EliminationLaws.{survivors-ascend, survives-iff, survivors-is, survivors-stays, rounds-least}
@@ -66,6 +68,25 @@ module _ (S : Tableau) (r : ℕ) where
 
 -- ---- the verdict
 
+-- from any start types: where nothing was found, no naming that was looked at has a surviving type with the goal
+module _ (cl ln : List Form) (start : ℕ → List ℕ) (goal : Form) where
+  abbrev goalsFrom : ℕ → List ℕ
+  goalsFrom r = keep (λ t. truth ln t goal) (survivorsFrom cl ln start r)
+
+  from-none : (rs : List ℕ) → verdictFrom cl ln start goal rs ≡ unsatisfiable → (r : ℕ) → r ∈ rs → goalsFrom r ≡ []
+  unfolding verdictFrom
+  from-none [] e r m = absurd (List·Memᴰ·not-nil m)
+  from-none (q ∷ rs) e r m = go (goalsFrom q) refl e (List·Memᴰ·cases-cons m) (λ f. from-none rs f r)
+    where
+      go : (l : List ℕ) → goalsFrom q ≡ l → (elim l as (λ x. Verdict) [ [] ↦ verdictFrom cl ln start goal rs | t ∷ ts ↦ open′ q t ]) ≡ unsatisfiable → (r ≡ q) ⊎ (r ∈ rs)
+          → (verdictFrom cl ln start goal rs ≡ unsatisfiable → r ∈ rs → goalsFrom r ≡ []) → goalsFrom r ≡ []
+      go [] g f (inl i) rec = ap goalsFrom i ∙ g
+      go [] g f (inr k) rec = rec f k
+      go (t ∷ ts) g f c rec = absurd (let z : _≡_ {A = ℕ} 0 1 = cc in omega arith)
+
+  pub none-from : (rs : List ℕ) → verdictFrom cl ln start goal rs ≡ unsatisfiable → (r t : ℕ) → r ∈ rs → t ∈ survivorsFrom cl ln start r → T (truth ln t goal) → ⊥
+  none-from rs e r t m s h = List·Memᴰ·not-nil (subst (λ k. t ∈ k) (from-none rs e r m) (keep-in (λ t. truth ln t goal) s h))
+
 module _ (S : Tableau) (goal : Form) where
   ascending-goal : (r : ℕ) → Ascending 0 (goalTypes S goal r)
   unfolding goalTypes
@@ -73,21 +94,16 @@ module _ (S : Tableau) (goal : Form) where
       ascending-keep (λ t. truth (S .ln) t goal) 0 (survivingTypes S r)
       (surviving-ascend S r)
 
-  over-none : (rs : List ℕ) → verdictOver S goal rs ≡ unsatisfiable → (r : ℕ) → r ∈ rs → goalTypes S goal r ≡ []
-  unfolding verdictOver
-  over-none [] e r m = absurd (List·Memᴰ·not-nil m)
-  over-none (q ∷ rs) e r m = go (goalTypes S goal q) refl e (List·Memᴰ·cases-cons m) (λ f. over-none rs f r)
-    where
-      go : (l : List ℕ) → goalTypes S goal q ≡ l → (elim l as (λ x. Verdict) [ [] ↦ verdictOver S goal rs | t ∷ ts ↦ open′ q t ]) ≡ unsatisfiable → (r ≡ q) ⊎ (r ∈ rs)
-          → (verdictOver S goal rs ≡ unsatisfiable → r ∈ rs → goalTypes S goal r ≡ []) → goalTypes S goal r ≡ []
-      go [] g f (inl i) rec = ap (goalTypes S goal) i ∙ g
-      go [] g f (inr k) rec = rec f k
-      go (t ∷ ts) g f c rec = absurd (let z : _≡_ {A = ℕ} 0 1 = cc in omega arith)
+  -- the verdict comes from the start types
+  pub over-from : (rs : List ℕ) → verdictOver S goal rs ≡ verdictFrom (S .cl) (S .ln) (startTypes S) goal rs
+  unfolding verdictOver goalTypes survivingTypes verdictFrom
+  over-from [] = refl
+  over-from (r ∷ rs) =
+      ap (λ v. elim (keep (λ t. truth (S .ln) t goal) (survivorsFrom (S .cl) (S .ln) (startTypes S) r)) as (λ x. Verdict) [ [] ↦ v | t ∷ ts ↦ open′ r t ]) (over-from rs)
 
   verdict-none : verdict S goal ≡ unsatisfiable → (r t : ℕ) → r < namings S → HasGoal S goal r t → ⊥
-  unfolding verdict goalTypes
-  verdict-none e r t l h =
-      List·Memᴰ·not-nil (subst (λ k. t ∈ k) (over-none (below (namings S)) e r (below-in l)) (keep-in (λ t. truth (S .ln) t goal) (h .0) (h .1)))
+  unfolding verdict survivingTypes
+  verdict-none e r t l h = none-from (S .cl) (S .ln) (startTypes S) goal (below (namings S)) (sym (over-from (below (namings S))) ∙ e) r t (below-in l) (h .0) (h .1)
 
   First : ℕ → ℕ → ℕ → ℕ → Type 0
   First a n r t = (a ≤ r) × (r < a + n) × ((ts : List ℕ) × (goalTypes S goal r ≡ t ∷ ts)) × ((q : ℕ) → a ≤ q → q < r → goalTypes S goal q ≡ [])

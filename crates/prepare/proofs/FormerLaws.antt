@@ -1,21 +1,23 @@
 -- What sheets keep that have nothing of what a request brings. Without values their places and tableau are document 01's, and where at most one name occurs so are namings, start types,
--- families, rounds, survivors and verdict; with symbols of single letters besides, their tableau is the one by letters. Assumes nothing.
+-- families, rounds, survivors and verdict; with symbols of single letters besides, their tableau is the one by letters. And no goal that was unsatisfiable comes back. Assumes nothing.
 use mathlib.Core.Path.{_≡_, refl, ap, _∙_, subst}
 use mathlib.Core.Logic.{_↔_}
 use mathlib.Core.List.{List, [], _∷_, _++_, map, List·Memᴰ·head, Memᴰ·append-left, Memᴰ·append-right}
 use Prim.Native.Nat.{ℕ, _≤_, _<_}
 use native.Mathlib.Omega.{arith}
 use lib.ListN.{length, getD}
-use Rattle.ctl.specs.Lists.{_∈_}
+use Rattle.ctl.specs.Lists.{_∈_, below}
 use Rattle.ctl.specs.Formula.{Form}
 use Rattle.ctl.specs.Positive.{positive}
 use Rattle.ctl.specs.Closure.{closure}
 use Rattle.ctl.specs.Lean.{withValues, lean}
 use Rattle.ctl.specs.Snapshot.{Snapshot}
 use Rattle.ctl.specs.Tableau.{tableauOf, namePlaces, namings, obeys}
-use Rattle.ctl.specs.Judging.{formerStart, JudgedFrom}
+use Rattle.ctl.specs.Verdict.{unsatisfiable, verdict}
+use Rattle.ctl.specs.Judging.{formerStart, verdictFrom, JudgedFrom}
 use Rattle.ctl.specs.Demand3.{Fits, sheetTableau}
 use Rattle.ctl.specs.Published
+use Rattle.ctl.proofs.Crossed.{unsatisfiable-stays}
 use Rattle.ctl.proofs.Unchanged.{as-published, one-fits, one-name, tableau-without, without-values}
 use Rattle.ctl.specs.Former.{formerTableau}
 use Rattle.ctl.proofs.FormerLaws.{tableau-former}
@@ -102,6 +104,12 @@ module _ (s : List ℕ) (one : OneName s) where
   -- without values they are document 01's
   pub judged-document : WithoutValues s → JudgedFrom (tableauIn s) (formerStart (tableauIn s) (Published.obeys (tableauIn s))) (Published.namings (tableauIn s))
   judged-document none = as-published (tableauIn s) one (values-before s none)
+
+-- ---- whatever names occur
+
+-- a goal that was unsatisfiable by the published namings is so still
+pub unsatisfiable-before : (s : List ℕ) (goal : Form) → (let S = tableauIn s in verdictFrom (S .cl) (S .ln) (Published.startTypes S) goal (below (Published.namings S)) ≡ unsatisfiable) → verdict (tableauIn s) goal ≡ unsatisfiable
+unsatisfiable-before s goal = unsatisfiable-stays (tableauIn s) goal
 
 -- ---- with symbols of single letters
 
