@@ -4,9 +4,9 @@ use mathlib.Core.Path.{_≡_, refl, ap}
 use mathlib.Core.Bool.{Bool, _&&_}
 use mathlib.Core.List.{List, [], _∷_, List·Memᴰ·head, List·Memᴰ·tail}
 use Prim.Native.Nat.{ℕ, _+_, _*_, _/_, _%_, _^_, _<_}
-use lib.Dec.{T, eqb, eqb→eq, eqb-refl}
+use lib.Dec.{T, eqb, eqb→eq}
 use lib.ListN.{length}
-use lib.Pow.{high, low, pow-pos}
+use lib.Pow.{pow-pos}
 use Rattle.ctl.specs.Lists.{_∈_, allOf, below, imp}
 use Rattle.ctl.specs.Formula.{Form}
 use Rattle.ctl.specs.Numbers.{withPlace}
@@ -17,9 +17,9 @@ use Rattle.ctl.specs.Elimination.{survivors}
 use Rattle.ctl.specs.Verdict.{unsatisfiable, survivingTypes, verdict}
 use Rattle.ctl.specs.Judging.{verdictFrom}
 use Rattle.ctl.specs.Published
-use Rattle.ctl.proofs.BoolLaws.{and-0, and-1, and-in, imp-in, imp-out}
+use Rattle.ctl.proofs.BoolLaws.{and-0, and-1, and-in, imp-out}
 use Rattle.ctl.proofs.ListLaws.{below-in, below-out, keep-in, keep-out}
-use Rattle.ctl.proofs.NamingLaws.{digit-lt, name-lt, pack-lt}
+use Rattle.ctl.proofs.NamingLaws.{digit-lt, digits-in, name-lt, pack-lt}
 use Rattle.ctl.proofs.NamedTypes.{named-type}
 use Rattle.ctl.proofs.EliminationLaws.{survives-iff}
 use Rattle.ctl.proofs.VerdictLaws.{none-from, unsatisfiable-iff}
@@ -43,9 +43,7 @@ module _ (S : Tableau) where
   one-more v vs r m rec = (
     rec .0 * 2 ^ c + set,
     digit-lt c (length vs) set (rec .0) small (rec .1),
-    λ t l h. and-in (imp (inType t v) (eqb (pack (Published.otherPlaces S) t) ((rec .0 * 2 ^ c + set) % 2 ^ c))) (Published.obeysFrom S vs ((rec .0 * 2 ^ c + set) / 2 ^ c) t)
-        (imp-in (inType t v) (eqb (pack (Published.otherPlaces S) t) ((rec .0 * 2 ^ c + set) % 2 ^ c)) (λ i. rw (low (rec .0) c small, ap (pack (Published.otherPlaces S)) (own t l h i)) (eqb-refl set)))
-        (rw (high (rec .0) c small) (rec .2 t l (and-1 (mine t) (obeysFrom S vs (r / 2 ^ setBits S) t) h))),
+    λ t l h. digits-in (inType t v) (pack (Published.otherPlaces S) t) (λ q. Published.obeysFrom S vs q t) c set (rec .0) small (λ i. ap (pack (Published.otherPlaces S)) (own t l h i)) (rec .2 t l (and-1 (mine t) (obeysFrom S vs (r / 2 ^ setBits S) t) h)),
   )
     where
       set : ℕ

@@ -1,7 +1,7 @@
 -- The places that a name's set covers; and some naming fits every snapshot in which each name is on at most one node. Assumes nothing.
 use mathlib.Core.Path.{_≡_, refl, sym, ap, ap₂, _∙_, subst}
 use mathlib.Core.Logic.{_⊎_, inl, inr}
-use mathlib.Core.Bool.{not}
+use mathlib.Core.Bool.{Bool, not, _&&_}
 use mathlib.Core.List.{List, [], _∷_, _++_, map, List·Memᴰ·head, List·Memᴰ·tail}
 use Prim.Native.Nat.{ℕ, suc, _+_, _-_, _*_, _/_, _%_, _^_, _<_}
 use native.Mathlib.Nat.{mul-suc, mul-le-mul-right}
@@ -27,6 +27,11 @@ use Rattle.ctl.proofs.NodeTypes.{nodeType, type-place}
 pub digit-lt : (c k s r : ℕ) → s < 2 ^ c → r < 2 ^ (c * k) → r * 2 ^ c + s < 2 ^ (c * suc k)
 digit-lt c k s r h l = rw (mul-suc c k, pow-add 2 (c * k) c) (omega (arith, mul-le-mul-right (2 ^ c) l))
 
+-- a set before the sets of later names: what asks for the first set, and what asks for the others, find them there
+pub digits-in : (a : Bool) (x : ℕ) (rest : ℕ → Bool) (c s r : ℕ) → s < 2 ^ c → (T a → x ≡ s) → T (rest r) → T (imp a (eqb x ((r * 2 ^ c + s) % 2 ^ c)) && rest ((r * 2 ^ c + s) / 2 ^ c))
+digits-in a x rest c s r l f h =
+    and-in (imp a (eqb x ((r * 2 ^ c + s) % 2 ^ c))) (rest ((r * 2 ^ c + s) / 2 ^ c)) (imp-in a (eqb x ((r * 2 ^ c + s) % 2 ^ c)) (λ t. rw (low r c l, f t) (eqb-refl s))) (rw (high r c l) h)
+
 pub pack-lt : (l : List ℕ) (t : ℕ) → pack l t < 2 ^ length l
 unfolding pack
 pack-lt l t = subst (λ k. pack l t < 2 ^ k) (length-map l (inType t)) (number-lt (map (inType t) l))
@@ -34,7 +39,7 @@ pack-lt l t = subst (λ k. pack l t < 2 ^ k) (length-map l (inType t)) (number-l
 -- ---- the places that a name's set covers
 
 -- the numbers below v + 1 + m but v
-pub but-split : (v m : ℕ) → keep (λ i. not (eqb i v)) (below (v + suc m)) ≡ below v ++ countFrom (suc v) m
+but-split : (v m : ℕ) → keep (λ i. not (eqb i v)) (below (v + suc m)) ≡ below v ++ countFrom (suc v) m
 but-split v m =
     let others : (a n : ℕ) → ((i : ℕ) → i ∈ countFrom a n → i ≡ v → ⊥) → keep (λ i. not (eqb i v)) (countFrom a n) ≡ countFrom a n =
     λ a n f. keep-all (λ i. not (eqb i v)) (countFrom a n) (λ i h. T-true (not (eqb i v)) (ap not (ne-eqb i v (f i h)))) in
@@ -95,10 +100,7 @@ module _ (S : Tableau) (s : Snapshot) (single : NamesSingle (S .name) s) where
       with-set w l f rec = (
         rec .0 * 2 ^ c + w,
         digit-lt c (length vs) w (rec .0) l (rec .1),
-        λ i il. and-in (imp (inType (ty i) v) (eqb (pack (placesBut S v) (ty i)) ((rec .0 * 2 ^ c + w) % 2 ^ c))) (obeysFrom S vs ((rec .0 * 2 ^ c + w) / 2 ^ c) (ty i))
-            (imp-in (inType (ty i) v) (eqb (pack (placesBut S v) (ty i)) ((rec .0 * 2 ^ c + w) % 2 ^ c))
-            (λ h. rw (low (rec .0) c l, f i il h) (eqb-refl w)))
-            (rw (high (rec .0) c l) (rec .2 i il)),
+        λ i il. digits-in (inType (ty i) v) (pack (placesBut S v) (ty i)) (λ q. obeysFrom S vs q (ty i)) c w (rec .0) l (f i il) (rec .2 i il),
       )
 
       go : T (anyOf (λ i. inType (ty i) v) (below (s .n))) ⊎ (T (anyOf (λ i. inType (ty i) v) (below (s .n))) → ⊥) → Places vs → Places (v ∷ vs)

@@ -40,7 +40,7 @@ use Rattle.outcomes.specs.declared.VerdictAnswer.the-variants.{Open, Unsatisfia
 use Rattle.outcomes.specs.Outcomes.{snapshotRefusal, snapshotRow, tableAnswer, tableRefusal, verdictOf}
 use Rattle.fitted.specs.Accepted.{listedIn, survivorsIn, verdictIn, wordsIn}
 
--- a sheet, and what document 01 says of it: the verdict; what Table answers with stores of 4 words under a naming (how many words; types at start, left, rounds); the types that survive
+-- a sheet, and what document 01, or the request named beside it, says of it: the verdict; what Table answers with stores of 4 words under a naming (how many words; types at start, left, rounds); the types that survive
 -- under a naming; the same in document 02's order; the row of a snapshot's text; the number that refuses a text with so many bytes for its row
 record Graph : Type 0 where
   sheet : List ℕ
@@ -86,7 +86,7 @@ graphs =
       rows = [];
       refused = [];
     }
-    -- each name has a set of its own, the first name's in the low bits
+    -- §4: each name has a set of its own, the first name's in the low bits
     ∷ record {
       sheet = ascii "v w k f g\nname name mark field field\ngoal EX{f}(v&k)&EX{g}(w&!k)\n";
       verdict = Open 2 24 ∷ [];
@@ -98,7 +98,7 @@ graphs =
     }
     ∷ record { sheet = under "EG{f}!k"; verdict = []; tables = []; survivors = []; lists = []; rows = (ascii "k f\n0 0\n", 3 ∷ []) ∷ []; refused = [] }
     ∷ record { sheet = under "AF{f}k"; verdict = []; tables = []; survivors = []; lists = []; rows = (ascii "k f\n0 1\n", 2 ∷ []) ∷ (ascii "k f\n0 0\n", 2 ∷ []) ∷ []; refused = [] }
-    -- values: a declared one that does not occur is in the lean, and every type at start holds exactly one
+    -- document 02 §3: a declared value that does not occur is in the lean, and every type at start holds exactly one
     ∷ record {
       sheet = ascii "thread lock next\nvalue value field\ngoal EX{next}thread\n";
       verdict = Open 0 5 ∷ [];
@@ -109,7 +109,7 @@ graphs =
       refused = [];
     }
     ∷ graph (ascii "a b f\nvalue value field\ngoal EX{f}(!a&!b)\n") Unsatisfiable
-    -- 15 before 17 before 16, and 14 before 17
+    -- §3: 15 before 17 before 16, and 14 before 17
     ∷ record {
       sheet = ascii "v a b\nname value value\ngoal v&a\n";
       verdict = Open 1 3 ∷ [];

@@ -12,6 +12,10 @@ use Rattle.wordset.specs.Words.{member}
 use Rattle.wordset.proofs.BelowLaws.{top}
 use Rattle.wordset.proofs.WordLaws.{member-at}
 
+-- a number is a member if the word where it stands, the k-th, answers so for type t
+pub answered : (P : ℕ → Bool) (ws : List ℕ) (k t j : ℕ) → Answers P (t / 64) (getD ws k 0) → k * 64 + t % 64 ≡ j → member ws j ≡ P t
+answered P ws k t j a e = let q : t / 64 * 64 + t % 64 ≡ t = omega arith in ap (member ws) (sym e) ∙ member-at ws k (t % 64) (omega arith) ∙ sym (a .each (t % 64) (omega arith)) ∙ ap P q
+
 -- the first k words of each half answer
 pub record Halved (P Q : ℕ → Bool) (d : List ℕ) (w : ℕ) (ws : List ℕ) (k : ℕ) : Type 0 where
   pub within : k ≤ w
@@ -46,9 +50,5 @@ module _ {P Q : ℕ → Bool} {d : List ℕ} {w : ℕ} where
 
   pub halved-end : {ws : List ℕ} {k : ℕ} → Halved P Q d w ws k → w ≤ k → (t : ℕ) → t < w * 64 → (member ws t ≡ P t) × (member ws (w * 64 + t) ≡ Q t)
   halved-end {ws} f h t l =
-      let a : t / 64 * 64 + t % 64 ≡ t = omega arith in
-      let b : (w + t / 64) * 64 + t % 64 ≡ w * 64 + t = omega arith in
-      let m = f .within in (
-        ap (member ws) (sym a) ∙ member-at ws (t / 64) (t % 64) (omega arith) ∙ sym (f .first (t / 64) (omega arith) .each (t % 64) (omega arith)) ∙ ap P a,
-        ap (member ws) (sym b) ∙ member-at ws (w + t / 64) (t % 64) (omega arith) ∙ sym (f .second (t / 64) (omega arith) .each (t % 64) (omega arith)) ∙ ap Q a,
-      )
+      let m = f .within in
+      (answered P ws (t / 64) t t (f .first (t / 64) (omega arith)) (omega arith), answered Q ws (w + t / 64) t (w * 64 + t) (f .second (t / 64) (omega arith)) (omega arith))

@@ -22,6 +22,7 @@ use Rattle.wordset.proofs.BitLaws.{bit-pow, shl-one}
 use Rattle.wordset.proofs.PackLaws.{packed-ext, packed-held, packed-over, packed-self, packed-twice}
 use Rattle.wordset.proofs.WordLaws.{member-at}
 use Rattle.truth.proofs.ListWords.{held}
+use Rattle.start.proofs.Halves.{answered}
 use Rattle.start.specs.Starts.{namedType, obeysBy, startsBy, typeOfName}
 
 -- ---- one type more
@@ -30,9 +31,7 @@ use Rattle.start.specs.Starts.{namedType, obeysBy, startsBy, typeOfName}
 packed-set : (P : ℕ → Bool) (d : List ℕ) (w q x : ℕ) → q < w → w ≤ length d → Answers P q x → ((i : ℕ) → i < w → (i ≡ q → ⊥) → Answers P i (getD d i 0)) → set d q x ≡ packed w P d
 packed-set P d w q x h room p f =
     packed-self (set d q x) w (λ i l. words i l .small)
-    ∙ packed-ext (member (set d q x)) P (set d q x) w (λ j l.
-    let e : j / 64 * 64 + j % 64 ≡ j = omega arith in
-    ap (member (set d q x)) (sym e) ∙ member-at (set d q x) (j / 64) (j % 64) (omega arith) ∙ sym (words (j / 64) (omega arith) .each (j % 64) (omega arith)) ∙ ap P e)
+    ∙ packed-ext (member (set d q x)) P (set d q x) w (λ j l. answered P (set d q x) (j / 64) j j (words (j / 64) (omega arith)) (omega arith))
     ∙ packed-over P d (set d q x) w (length-set d q x) (drop-set-lt w d q x h) room
   where
     words : (i : ℕ) → i < w → Answers P i (getD (set d q x) i 0)
