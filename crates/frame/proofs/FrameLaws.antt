@@ -7,6 +7,7 @@ use lib.ListN.{length, getD, take}
 use lib.Pow.{pow-mono}
 use lib.Seq.{getD-take, length-take-le}
 use Rattle.ctl.proofs.ListLaws.{getD-in}
+use Rattle.ctl.proofs.NamingLaws.{name-lt}
 use Rattle.ctl.specs.Positive.{positive}
 use Rattle.ctl.specs.Tableau.{Tableau, namePlaces, namings, valuePlaces}
 use Rattle.sheet.specs.Refusal.{readRefusal}
@@ -21,7 +22,7 @@ use Rattle.prepare.specs.Width.{WordsFor}
 use Rattle.prepare.proofs.Bridge.{ex-places, formulas-some, global-inside, globals-map, goal, goal-inside, lean-length, leans, table, table-length, tableau-lean}
 use Rattle.prepare.proofs.PlaceLaws.{held}
 use Rattle.prepare.proofs.PlaceBridge.{names-are, values-are, found-matches, sought}
-use Rattle.prepare.proofs.NameCount.{name-below, names-two, value-below, values-few}
+use Rattle.prepare.proofs.NameCount.{names-two, value-below, values-few}
 use Rattle.start.specs.Starts.{Named}
 use Rattle.frame.specs.Framed.{Framed, FramedAs, Frames, Given, Sound}
 use Rattle.frame.proofs.CopyLaws.{few-bits}
@@ -117,7 +118,7 @@ module _ (s : List ℕ) (r : Reading) (x : Says s r) (z : readRefusal s ≡ 0) w
     names-some : 0 < k → 0 < length ln
     names-some h =
         let a = name-count in
-        let b = name-below s (getD (namePlaces S) 0 0) (getD-in 0 (namePlaces S) 0 (omega arith)) in
+        let b = name-lt S (getD-in 0 (namePlaces S) 0 (omega arith)) in
         let c = tableau-width in
         omega arith
 
@@ -135,7 +136,7 @@ module _ (s : List ℕ) (r : Reading) (x : Says s r) (z : readRefusal s ≡ 0) w
     found-named : Named (take k names′) (length ln)
     found-named = subst (λ l. Named l (length ln)) (sym names-held) (record {
       few = names-two s;
-      within = λ i h. (let b = name-below s (getD (namePlaces S) i 0) (getD-in 0 (namePlaces S) i h) in let e = tableau-width in omega arith);
+      within = λ i h. (let b = name-lt S (getD-in 0 (namePlaces S) i h) in let e = tableau-width in omega arith);
       narrow = omega arith;
     })
 

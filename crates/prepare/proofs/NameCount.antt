@@ -105,14 +105,10 @@ module _ (s : List ℕ) where
   pub names-two : length (namePlaces S) ≤ 2
   names-two = let a = names-declared in let b = kinds-two s in omega arith
 
-  -- how many values there are, and each place is below the lean's width
+  -- how many values there are, and each is below the lean's width (of names: `name-lt` of ctl)
   pub values-few : length (valuePlaces S) ≤ length (S .ln)
   unfolding valuePlaces
   values-few = kept-few (λ i. isValue S (getD (S .ln) i tru)) (length (S .ln))
-
-  pub name-below : (k : ℕ) → k ∈ namePlaces S → k < length (S .ln)
-  unfolding namePlaces
-  name-below k m = kept-below (λ i. isName S (getD (S .ln) i tru)) (length (S .ln)) k .0 m .0
 
   pub value-below : (k : ℕ) → k ∈ valuePlaces S → k < length (S .ln)
   unfolding valuePlaces
