@@ -1,5 +1,5 @@
 //! Plain Rust of the judge's algorithm, to compare the proved judge with: families of types as words, the truth of all members once
-//! for each sheet, a row of links for each type and mode, and rounds over set bits. Nothing here is proved; it is tested against
+//! for each sheet, the conditions of links along each mode, and rounds that cover a set of targets by what they refuse. Nothing here is proved; it is tested against
 //! the second checker's outcomes.
 
 mod closure;

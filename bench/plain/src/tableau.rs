@@ -1,4 +1,4 @@
-//! Truth, links, start types and rounds, over families of W words.
+//! Truth, conditions of links, start types and rounds, over families of W words.
 
 use crate::closure::Member;
 use crate::family::{self, Family};
@@ -13,15 +13,13 @@ pub struct Settled<const W: usize> {
     pub standing: Family<W>,
 }
 
-/// What a link by one mode asks of the row of a type: each rule by the places of two members.
-#[derive(Clone, Copy)]
-enum Rule {
-    /// Where the first is true, the second is true in the types linked to.
-    Forward(usize, usize),
-    /// Where the second is false, the first is false in the types linked to.
-    Backward(usize, usize),
-    /// The first is not true on both sides with the second false on both.
-    BothWays(usize, usize),
+/// The conditions of links along one mode: a type is linked to another unless it demands one that the other refuses.
+#[derive(Clone)]
+struct Way<const W: usize> {
+    demands: Vec<Family<W>>,
+    refusals: Vec<Family<W>>,
+    /// The types that refuse some condition.
+    refusing: Family<W>,
 }
 
 /// EX over one mode: its place in the closure, its mode, its body's place.
@@ -30,6 +28,14 @@ struct Next {
     whole: usize,
     mode: usize,
     body: usize,
+}
+
+/// What EX over a mode asks: the types that have the need, and those that are asked for. All EX over a field are one: a link along the field
+/// gives their bodies.
+struct Ask<const W: usize> {
+    mode: usize,
+    holders: Family<W>,
+    body: Family<W>,
 }
 
 /// EU (AU where `every` is true) by places.
@@ -45,9 +51,8 @@ struct Until {
 /// All that depends on the sheet alone, computed once for all its namings.
 pub struct Tableau<const W: usize> {
     truth: Vec<Family<W>>,
-    /// For each mode a row for each type: the types that it is linked to.
-    links: [Vec<Family<W>>; 16],
-    nexts: Vec<Next>,
+    ways: Vec<Way<W>>,
+    asks: Vec<Ask<W>>,
     untils: Vec<Until>,
     /// The types that make the globals true: those without a name, and those with one.
     free: Family<W>,
@@ -70,10 +75,9 @@ impl<const W: usize> Tableau<W> {
         let some = reading.names.iter().fold(family::none(), |types, &p| {
             family::or(&types, &family::place(p))
         });
-        let nexts = nexts(members);
         Tableau {
-            links: links(members, &nexts, &truth, 1 << reading.lean.len()),
-            nexts,
+            ways: ways(members, &truth),
+            asks: asks(&nexts(members), &truth),
             untils: untils(members),
             free: family::less(&base, &some),
             named: family::and(&base, &some),
@@ -135,8 +139,8 @@ impl<const W: usize> Tableau<W> {
 
     fn round(&self, family: &Family<W>) -> Family<W> {
         let mut kept = *family;
-        for next in &self.nexts {
-            kept = self.follow(&kept, family, next);
+        for ask in &self.asks {
+            kept = self.follow(&kept, family, ask);
         }
         for until in &self.untils {
             let holders = family::and(&kept, &self.truth[until.whole]);
@@ -146,24 +150,14 @@ impl<const W: usize> Tableau<W> {
         kept
     }
 
-    /// Of some types, those that have EX false, or are linked by its mode to a type of `among` with its body.
-    fn follow(&self, types: &Family<W>, among: &Family<W>, next: &Next) -> Family<W> {
-        let holders = family::and(types, &self.truth[next.whole]);
-        let targets = family::and(among, &self.truth[next.body]);
-        family::less(types, &self.unlinked(&holders, next.mode, &targets))
-    }
-
-    /// Of some types, those that are linked by the mode to no target. One word of targets at a time: most types are linked
-    /// through the first, and need not be looked at again.
-    fn unlinked(&self, types: &Family<W>, mode: usize, targets: &Family<W>) -> Family<W> {
-        let rows = &self.links[mode];
-        let mut left = *types;
-        for j in (0..W).filter(|&j| targets[j] != 0) {
-            for (k, types) in left.iter_mut().enumerate() {
-                *types = unlinked_word(rows, k, *types, j, targets[j]);
-            }
+    /// Of some types, those that have not the need, or are linked along its mode to a type of `among` that is asked for.
+    fn follow(&self, types: &Family<W>, among: &Family<W>, ask: &Ask<W>) -> Family<W> {
+        let holders = family::and(types, &ask.holders);
+        if family::is_empty(&holders) {
+            return *types;
         }
-        left
+        let targets = family::and(among, &ask.body);
+        family::less(types, &self.ways[ask.mode].unlinked(&holders, &targets))
     }
 
     /// Grows the types with the right operand by those with the left one that have what the until asks against them, until none
@@ -190,7 +184,7 @@ impl<const W: usize> Tableau<W> {
         let mut without = *types;
         let mut rest = modes;
         while rest != 0 {
-            without = self.unlinked(&without, rest.trailing_zeros() as usize, good);
+            without = self.ways[rest.trailing_zeros() as usize].unlinked(&without, good);
             rest &= rest - 1;
         }
         family::less(types, &without)
@@ -198,30 +192,72 @@ impl<const W: usize> Tableau<W> {
 
     /// Those in which every true EX over one of the modes has its next type in `good`.
     fn every_step(&self, types: &Family<W>, good: &Family<W>, modes: Modes) -> Family<W> {
-        let asked = self.nexts.iter().filter(|n| modes >> n.mode & 1 == 1);
-        asked.fold(*types, |kept, next| self.follow(&kept, good, next))
+        let asked = self.asks.iter().filter(|ask| modes >> ask.mode & 1 == 1);
+        asked.fold(*types, |kept, ask| self.follow(&kept, good, ask))
     }
 }
 
-/// Of the types of word k, those that are not linked to the targets of word j.
-fn unlinked_word<const W: usize>(
-    rows: &[Family<W>],
-    k: usize,
-    types: u64,
-    j: usize,
-    targets: u64,
-) -> u64 {
-    let mut left = 0;
-    let mut rest = types;
-    while rest != 0 {
-        let after = rest & (rest - 1);
-        let row = &rows[k * 64 + rest.trailing_zeros() as usize];
-        if row[j] & targets == 0 {
-            left |= rest & !after;
+impl<const W: usize> Way<W> {
+    /// Of some types, those that are linked to no target. A type that refuses little stands for all targets that refuse as much and more:
+    /// whoever is linked to one of those is linked to it.
+    fn unlinked(&self, types: &Family<W>, targets: &Family<W>) -> Family<W> {
+        if !family::is_empty(&family::less(targets, &self.refusing)) {
+            return family::none();
         }
-        rest = after;
+        let mut left = *types;
+        let mut rest = *targets;
+        while let Some(t) = family::first(&rest) {
+            let refused = self.smaller(&rest, self.refused(t));
+            left = family::and(&left, &some(&self.demands, refused));
+            if family::is_empty(&left) {
+                break;
+            }
+            rest = family::less(&rest, &every(&self.refusals, refused));
+        }
+        left
     }
-    left
+
+    /// The conditions that a type refuses.
+    fn refused(&self, t: usize) -> u32 {
+        let bits = self.refusals.iter().enumerate();
+        bits.fold(0, |set, (i, types)| set | u32::from(family::has(types, t)) << i)
+    }
+
+    /// What some type of a set refuses, where another refuses `refused`: no more, and less where a type does.
+    fn smaller(&self, set: &Family<W>, refused: u32) -> u32 {
+        let all = (1 << self.refusals.len()) - 1;
+        let mut refused = refused;
+        while refused & refused.wrapping_sub(1) != 0 {
+            let less = family::less(set, &every(&self.refusals, refused));
+            let fewer = family::less(&less, &some(&self.refusals, all & !refused));
+            match family::first(&fewer) {
+                Some(t) => refused = self.refused(t),
+                None => break,
+            }
+        }
+        refused
+    }
+}
+
+/// The types in some of the families of a set, and those in all of them.
+fn some<const W: usize>(families: &[Family<W>], set: u32) -> Family<W> {
+    let mut types = family::none();
+    let mut rest = set;
+    while rest != 0 {
+        types = family::or(&types, &families[rest.trailing_zeros() as usize]);
+        rest &= rest - 1;
+    }
+    types
+}
+
+fn every<const W: usize>(families: &[Family<W>], set: u32) -> Family<W> {
+    let mut types = [u64::MAX; W];
+    let mut rest = set;
+    while rest != 0 {
+        types = family::and(&types, &families[rest.trailing_zeros() as usize]);
+        rest &= rest - 1;
+    }
+    types
 }
 
 /// The types in which each member is true, from those before it and the lean's places.
@@ -302,68 +338,67 @@ fn singles(modes: Modes) -> impl Iterator<Item = Modes> {
         .filter(move |mode| modes & mode != 0)
 }
 
-/// Rows for the modes that an EX goes along: rounds ask for no others, since an EU or AU has EX over each of its modes.
-fn links<const W: usize>(
-    members: &[Member],
-    nexts: &[Next],
-    truth: &[Family<W>],
-    types: usize,
-) -> [Vec<Family<W>>; 16] {
-    let rules = rules(members);
-    let is_asked = |mode| nexts.iter().any(|next| next.mode == mode);
-    std::array::from_fn(|mode| match is_asked(mode) {
-        true => (0..types).map(|t| row(&rules[mode], truth, t)).collect(),
-        false => Vec::new(),
-    })
-}
-
-fn row<const W: usize>(rules: &[Rule], truth: &[Family<W>], t: usize) -> Family<W> {
-    let mut row = [u64::MAX; W];
-    for rule in rules {
-        match *rule {
-            Rule::Forward(whole, body) if family::has(&truth[whole], t) => {
-                row = family::and(&row, &truth[body]);
-            }
-            Rule::Backward(whole, body) if !family::has(&truth[body], t) => {
-                row = family::less(&row, &truth[whole]);
-            }
-            Rule::BothWays(whole, right)
-                if family::has(&truth[whole], t) && !family::has(&truth[right], t) =>
-            {
-                row = family::less(&row, &family::less(&truth[whole], &truth[right]));
-            }
-            _ => {}
+/// The conditions along each mode, without those that no type demands or no type refuses. Backward, the two are exchanged.
+fn ways<const W: usize>(members: &[Member], truth: &[Family<W>]) -> Vec<Way<W>> {
+    let mut demands: [Vec<Family<W>>; 8] = Default::default();
+    let mut refusals: [Vec<Family<W>>; 8] = Default::default();
+    let mut put = |field: usize, demand: Family<W>, refuse: Family<W>| {
+        if !family::is_empty(&demand) && !family::is_empty(&refuse) {
+            demands[field].push(demand);
+            refusals[field].push(refuse);
         }
-    }
-    row
-}
-
-fn rules(members: &[Member]) -> [Vec<Rule>; 16] {
-    let mut rules: [Vec<Rule>; 16] = Default::default();
+    };
     for (whole, &member) in members.iter().enumerate() {
         match member {
-            Member::Ex(modes, body) if modes.is_power_of_two() => {
-                let mode = modes.trailing_zeros() as usize;
-                // EX over backward m asks nothing of a link by m: one predecessor with the body is enough.
-                if mode < 8 {
-                    rules[mode].push(Rule::Forward(whole, usize::from(body)));
-                    rules[mode + 8].push(Rule::Backward(whole, usize::from(body)));
-                }
+            // EX over backward m asks nothing of a link by m: one predecessor with the body is enough.
+            Member::Ex(modes, body) if modes.is_power_of_two() && modes < 256 => {
+                let field = modes.trailing_zeros() as usize;
+                put(field, truth[whole], family::not(&truth[usize::from(body)]));
             }
             Member::Ax(modes, body) if modes.is_power_of_two() => {
                 let mode = modes.trailing_zeros() as usize;
-                rules[mode].push(Rule::Forward(whole, usize::from(body)));
-                rules[mode ^ 8].push(Rule::Backward(whole, usize::from(body)));
+                let without = family::not(&truth[usize::from(body)]);
+                match mode < 8 {
+                    true => put(mode, truth[whole], without),
+                    false => put(mode - 8, without, truth[whole]),
+                }
             }
             Member::Au(modes, _, right) => {
-                for mode in (0..16).filter(|mode| modes & modes.rotate_left(8) & 1 << mode != 0) {
-                    rules[mode].push(Rule::BothWays(whole, usize::from(right)));
+                let types = family::less(&truth[whole], &truth[usize::from(right)]);
+                for field in (0..8).filter(|field| modes >> field & modes >> (field + 8) & 1 == 1) {
+                    put(field, types, types);
                 }
             }
             _ => {}
         }
     }
-    rules
+    let way = |demands: &Vec<Family<W>>, refusals: &Vec<Family<W>>| Way {
+        demands: demands.clone(),
+        refusals: refusals.clone(),
+        refusing: refusals.iter().fold(family::none(), |a, b| family::or(&a, b)),
+    };
+    let forward = (0..8).map(|field| way(&demands[field], &refusals[field]));
+    let backward = (0..8).map(|field| way(&refusals[field], &demands[field]));
+    forward.chain(backward).collect()
+}
+
+fn asks<const W: usize>(nexts: &[Next], truth: &[Family<W>]) -> Vec<Ask<W>> {
+    let mut asks: Vec<Ask<W>> = Vec::with_capacity(nexts.len());
+    for next in nexts {
+        let holders = truth[next.whole];
+        match asks.iter_mut().find(|ask| next.mode < 8 && ask.mode == next.mode) {
+            Some(ask) => ask.holders = family::or(&ask.holders, &holders),
+            None => asks.push(Ask {
+                mode: next.mode,
+                holders,
+                body: match next.mode < 8 {
+                    true => [u64::MAX; W],
+                    false => truth[next.body],
+                },
+            }),
+        }
+    }
+    asks
 }
 
 fn nexts(members: &[Member]) -> Vec<Next> {

@@ -16,18 +16,19 @@ fn fill_one(
     ln: &[u8],
     w: usize,
     tw: &[u64],
-    lw: &[u64],
+    cw: &[u64],
+    ns: &[u64],
     names: &[u8],
     base: &[u64],
     r: u64,
     store: &mut [u64],
 )
-    requires { ⌜ Ready (now ms) (now ln) w (now tw) (now lw) ⌝ }
+    requires { ⌜ Ready (now ms) (now ln) w (now tw) (now cw) (now ns) ⌝ }
     requires { ⌜ Places w (now ln) (now names) (now base) × ((w ≤ 4) × (w ≤ length (now store))) ⌝ }
     ensures { λ _. ⌜ now (store .exit) ≡ packed w (λ t. elem t (Survivors (now (ms .entry)) (now (ln .entry)) (startList w (now (base .entry)) (now (names .entry)) (length (now (ln .entry))) r))) (now (store .entry)) ⌝ }
 {
     let mut other = [0u64; 4];
-    judge::fill_table(ms, ln, w, tw, lw, names, base, r, store, &mut other);
+    judge::fill_table(ms, ln, w, tw, cw, ns, names, base, r, store, &mut other);
 }
 
 // The tables of namings 0 to n - 1, naming r's w words from word r * w on; the rest of the store is as it was.
@@ -37,13 +38,14 @@ pub fn fill_book(
     ln: &[u8],
     w: usize,
     tw: &[u64],
-    lw: &[u64],
+    cw: &[u64],
+    ns: &[u64],
     names: &[u8],
     base: &[u64],
     namings: u64,
     store: &mut [u64],
 )
-    requires { ⌜ Ready (now ms) (now ln) w (now tw) (now lw) ⌝ }
+    requires { ⌜ Ready (now ms) (now ln) w (now tw) (now cw) (now ns) ⌝ }
     requires { ⌜ Places w (now ln) (now names) (now base) × ((w ≤ 4) × (namings * w ≤ length (now store))) ⌝ }
     ensures { λ _. ⌜ now (store .exit) ≡ tablesBy w (λ r t. elem t (Survivors (now (ms .entry)) (now (ln .entry)) (startList w (now (base .entry)) (now (names .entry)) (length (now (ln .entry))) r))) namings ++ drop (namings * w) (now (store .entry)) ⌝ }
 {
@@ -51,7 +53,7 @@ pub fn fill_book(
     while n.number < n.count {
         let r = n.number;
         let at = r as usize * w;
-        fill_one(ms, ln, w, tw, lw, names, base, r, &mut store[at..]);
+        fill_one(ms, ln, w, tw, cw, ns, names, base, r, &mut store[at..]);
         n = naming::advanced(n);
     }
 }

@@ -28,7 +28,6 @@ use Rattle.booking.proofs.BookLaws.{tables-ext}
 use Rattle.frame.specs.Framed.{Framed}
 use Rattle.frame.specs.SetUp.{Accepts, SetUp, frameIn, globalsIn, leanIn, membersIn, namesIn, valuesIn}
 use Rattle.frame.specs.declared.Setup.{Setup}
-use Rattle.frame.proofs.Stores.{links-most}
 use Rattle.frame.proofs.VerdictLaws.{framed-verdict}
 use Rattle.fitted.specs.Accepted.{TabledIn, bookIn, verdictIn, wordsIn}
 
@@ -97,23 +96,19 @@ module _ {s : List ℕ} {u : Setup} (x : SetUp s u) (z : u .refusal ≡ 0) where
 
   -- ---- the words that are computed once
 
-  -- the largest store has room for all link words
-  pub links-within : u .links ≤ 16400
-  links-within = links-most accepts
-
   -- what filling them asks
-  pub words-asked : (t l b : ℕ) → t ≡ 288 → u .links ≤ l → b ≡ 8 → ((q : List ℕ) × Accepts q u) × ((288 ≤ t) × (u .links ≤ l) × (8 ≤ b))
-  words-asked t l b e h i = ((s, accepts), (omega arith, h, omega arith))
+  pub words-asked : (t c n b : ℕ) → t ≡ 324 → c ≡ 272 → n ≡ 80 → b ≡ 8 → ((q : List ℕ) × Accepts q u) × ((324 ≤ t) × (272 ≤ c) × (80 ≤ n) × (8 ≤ b))
+  words-asked t c n b e h i j = ((s, accepts), (omega arith, omega arith, omega arith, omega arith))
 
-  module _ {tw lw base : List ℕ} (f : Ready (membersIn u) (leanIn u) (u .words) tw lw × Based (u .words) (inBase (membersIn u) (leanIn u) (globalsIn u) (valuesIn u)) (namesIn u) base) (l : length base ≡ 8) where
+  module _ {tw cw ns base : List ℕ} (f : Ready (membersIn u) (leanIn u) (u .words) tw cw ns × Based (u .words) (inBase (membersIn u) (leanIn u) (globalsIn u) (valuesIn u)) (namesIn u) base) (l : length base ≡ 8) where
     places : Places (u .words) (leanIn u) (namesIn u) base
     places = let w = few-words in record { named = framed .named; enough = framed .enough; base-room = omega arith }
 
     -- ---- one naming's table
 
-    pub fill-asked : (m n : ℕ) → 4 ≤ m → 4 ≤ n
-        → Ready (membersIn u) (leanIn u) (u .words) tw lw × (Places (u .words) (leanIn u) (namesIn u) base × ((u .words ≤ 4) × ((u .words ≤ m) × (u .words ≤ n))))
-    fill-asked m n a b = let w = few-words in (f .0, (places, (w, (omega arith, omega arith))))
+    pub fill-asked : (m k : ℕ) → 4 ≤ m → 4 ≤ k
+        → Ready (membersIn u) (leanIn u) (u .words) tw cw ns × (Places (u .words) (leanIn u) (namesIn u) base × ((u .words ≤ 4) × ((u .words ≤ m) × (u .words ≤ k))))
+    fill-asked m k a b = let w = few-words in (f .0, (places, (w, (omega arith, omega arith))))
 
     module _ (r : ℕ) where
       abbrev start : List ℕ
@@ -130,9 +125,9 @@ module _ {s : List ℕ} {u : Setup} (x : SetUp s u) (z : u .refusal ≡ 0) where
 
     -- ---- the tables of all namings
 
-    pub book-asked : (n : ℕ) → u .namings * u .words ≤ n
-        → Ready (membersIn u) (leanIn u) (u .words) tw lw × (Places (u .words) (leanIn u) (namesIn u) base × ((u .words ≤ 4) × (u .namings * u .words ≤ n)))
-    book-asked n h = (f .0, (places, (few-words, h)))
+    pub book-asked : (k : ℕ) → u .namings * u .words ≤ k
+        → Ready (membersIn u) (leanIn u) (u .words) tw cw ns × (Places (u .words) (leanIn u) (namesIn u) base × ((u .words ≤ 4) × (u .namings * u .words ≤ k)))
+    book-asked k h = (f .0, (places, (few-words, h)))
 
     pub book-filled : (d : List ℕ) {d′ : List ℕ} → d′ ≡ tablesBy (u .words) (λ r t. elem t (Survivors (membersIn u) (leanIn u) (startList (u .words) base (namesIn u) (length (leanIn u)) r))) (u .namings) ++ drop (u .namings * u .words) d → d′ ≡ bookIn s d
     book-filled d e =
@@ -141,11 +136,11 @@ module _ {s : List ℕ} {u : Setup} (x : SetUp s u) (z : u .refusal ≡ 0) where
 
     -- ---- judging
 
-    pub judge-asked : (first second among todo found : List ℕ) → length first ≡ 4 → length second ≡ 4 → length among ≡ 4 → length todo ≡ 4 → length found ≡ 4
-        → Ready (membersIn u) (leanIn u) (u .words) tw lw × (Room (u .words) first second among todo found × (Places (u .words) (leanIn u) (namesIn u) base × (u .goal < length (membersIn u))))
-    judge-asked first second among todo found a b c d e =
+    pub judge-asked : (first second among todo found rest : List ℕ) → length first ≡ 4 → length second ≡ 4 → length among ≡ 4 → length todo ≡ 4 → length found ≡ 4 → length rest ≡ 4
+        → Ready (membersIn u) (leanIn u) (u .words) tw cw ns × (Room (u .words) first second among todo found rest × (Places (u .words) (leanIn u) (namesIn u) base × (u .goal < length (membersIn u))))
+    judge-asked first second among todo found rest a b c d e g =
         let w = few-words in
-        (f .0, (record { first-room = omega arith; second-room = omega arith; u-room = omega arith; todo-room = omega arith; v-room = omega arith }, (places, framed .goal-inside)))
+        (f .0, (record { first-room = omega arith; second-room = omega arith; u-room = omega arith; todo-room = omega arith; v-room = omega arith; rest-room = omega arith }, (places, framed .goal-inside)))
 
     pub judged : {v : Verdict} → Judged (goalsAt (membersIn u) (leanIn u) (u .words) base (namesIn u) (u .goal)) (u .namings) v → verdictIn s ≡ verdictOf v
     unfolding verdictIn

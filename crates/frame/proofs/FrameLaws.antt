@@ -1,7 +1,7 @@
 -- What finding a frame asks at each call, and that what the calls give is the sheet's tableau. Assumes nothing.
 use mathlib.Core.Path.{_≡_, sym, ap, ap₂, _∙_, subst}
 use mathlib.Core.List.{List, map}
-use Prim.Native.Nat.{ℕ, zero, suc, _-_, _*_, _^_, _≤_, _<_}
+use Prim.Native.Nat.{ℕ, _-_, _*_, _^_, _≤_, _<_}
 use native.Mathlib.Omega.{arith}
 use lib.ListN.{length, getD, take}
 use lib.Pow.{pow-mono}
@@ -13,13 +13,12 @@ use Rattle.ctl.specs.Tableau.{Tableau, namePlaces, namings, valuePlaces}
 use Rattle.sheet.specs.Refusal.{readRefusal}
 use Rattle.sheet.specs.Reading.{formulas, goalOf, globalsOf}
 use Rattle.truth.specs.Tables.{Leans, Table, form}
-use Rattle.links.specs.Links.{linkRoom}
 use Rattle.reader.specs.declared.Reading.{Reading}
 use Rattle.reader.specs.Reader.{Says}
 use Rattle.prepare.specs.Prepared.{kindsOf, leanOf, tableOf, tableauIn}
 use Rattle.prepare.specs.Places.{placesBy, Sought, Found}
 use Rattle.prepare.specs.Width.{WordsFor}
-use Rattle.prepare.proofs.Bridge.{ex-places, formulas-some, global-inside, globals-map, goal, goal-inside, lean-length, leans, table, table-length, tableau-lean}
+use Rattle.prepare.proofs.Bridge.{formulas-some, global-inside, globals-map, goal, goal-inside, lean-length, leans, placed, table, table-length, tableau-lean}
 use Rattle.prepare.proofs.PlaceLaws.{held}
 use Rattle.prepare.proofs.PlaceBridge.{names-are, values-are, found-matches, sought}
 use Rattle.prepare.proofs.NameCount.{names-two, value-below, values-few}
@@ -28,15 +27,6 @@ use Rattle.frame.specs.Framed.{Framed, FramedAs, Frames, Given, Sound}
 use Rattle.frame.proofs.CopyLaws.{few-bits}
 
 -- ---- lists and numbers
-
--- at most 4 words for each of at most 64 closure members and 8 values
-truth-room : (n w : ℕ) → n ≤ 72 → w ≤ 4 → n * w ≤ 288
-truth-room n zero h k = omega arith
-truth-room n (suc zero) h k = omega arith
-truth-room n (suc (suc zero)) h k = omega arith
-truth-room n (suc (suc (suc zero))) h k = omega arith
-truth-room n (suc (suc (suc (suc zero)))) h k = omega arith
-truth-room n (suc (suc (suc (suc (suc w))))) h k = absurd (omega arith)
 
 -- ---- the two lists of places, each in its store
 
@@ -143,28 +133,28 @@ module _ (s : List ℕ) (r : Reading) (x : Says s r) (z : readRefusal s ≡ 0) w
     values-low : (i : ℕ) → i < length (take v values′) → getD (take v values′) i 0 ≤ 60
     values-low = subst (λ l. (i : ℕ) → i < length l → getD l i 0 ≤ 60) (sym values-held) (λ i h. (let e = tableau-width in let b = value-below s (getD (valuePlaces S) i 0) (getD-in 0 (valuePlaces S) i h) in omega arith))
 
-    module _ (many : length ps ≡ r .formulas) (small : length ms ≤ 72) {w l n : ℕ} (globals′ : List ℕ) (wide : WordsFor (length ln) w) (el : l ≡ linkRoom ms w) (eg : take (length ps - 1) globals′ ≡ take (length ps - 1) ps) (en : n ≡ 2 ^ ((length ln - 1) * k)) where
+    module _ (many : length ps ≡ r .formulas) (small : length ms ≤ 72) {w n : ℕ} (globals′ : List ℕ) (wide : WordsFor (length ln) w) (eg : take (length ps - 1) globals′ ≡ take (length ps - 1) ps) (en : n ≡ 2 ^ ((length ln - 1) * k)) where
       abbrev globals : List ℕ
       globals = take (length ps - 1) globals′
 
       read-sound : Sound ms ln globals (take v values′)
       read-sound = record {
         table = table s r x;
+        few = small;
         leans = leans s r x (let a = lean-length s r x in omega arith);
-        places = ex-places s r x;
+        narrow = omega arith;
+        places = placed s r x;
         globals-in = before-in many globals eg;
         values-in = values-low;
       }
 
-      framed-read : r .formulas ≤ 5 → Framed S (positive (goalOf (formulas s))) ms ln globals (take k names′) (take v values′) (record { words = w; links = l; globals = length ps - 1; names = k; values = v; goal = getD ps (length ps - 1) 0; namings = n })
+      framed-read : r .formulas ≤ 5 → Framed S (positive (goalOf (formulas s))) ms ln globals (take k names′) (take v values′) (record { words = w; globals = length ps - 1; names = k; values = v; goal = getD ps (length ps - 1) 0; namings = n })
       framed-read few = record {
         sound = read-sound;
         matches = found-matches s r x z (held (y .names-found)) (held (y .values-found)) globals (before-map many globals eg);
         enough = wide .enough;
         few-words = (wide .some, wide .few);
         no-more = wide .tight;
-        few-truths = truth-room (length ms) w small (wide .few);
-        links-are = el;
         goal-inside = last-inside many;
         goal-is = last-form many;
         namings-are = en ∙ namings-is;
@@ -213,13 +203,13 @@ module _ {ms ln kinds places s : List ℕ} {r : Reading} (g : Given ms ln kinds 
   given-sought : (store : List ℕ) → length ln ≤ 8 → 8 ≤ length store → Sought ms ln store
   given-sought store h i = let a = given-width in given-by (λ m l k p. Sought m l store) (sought s r (g .says) store (omega arith) (omega arith))
 
-  pub given-framed : length ln ≤ 8 → length ms ≤ 72 → r .formulas ≤ 5 → {w l n : ℕ} (globals′ : List ℕ) {names values names′ values′ : List ℕ} {k v : ℕ} → WordsFor (length ln) w → l ≡ linkRoom ms w
+  pub given-framed : length ln ≤ 8 → length ms ≤ 72 → r .formulas ≤ 5 → {w n : ℕ} (globals′ : List ℕ) {names values names′ values′ : List ℕ} {k v : ℕ} → WordsFor (length ln) w
       → take (length places - 1) globals′ ≡ take (length places - 1) places → Parts ms ln kinds names values names′ values′ k v → n ≡ 2 ^ ((length ln - 1) * k)
-      → Framed (tableauIn s) (positive (goalOf (formulas s))) ms ln (take (length places - 1) globals′) (take k names′) (take v values′) (record { words = w; links = l; globals = length places - 1; names = k; values = v; goal = getD places (length places - 1) 0; namings = n })
-  given-framed h i few {w} {l} {n} globals′ {names} {values} {names′} {values′} {k} {v} wide el eg y en =
-      given-by (λ a e c p. length e ≤ 8 → length a ≤ 72 → WordsFor (length e) w → l ≡ linkRoom a w → take (length p - 1) globals′ ≡ take (length p - 1) p → Parts a e c names values names′ values′ k v → n ≡ 2 ^ ((length e - 1) * k)
-      → Framed (tableauIn s) (positive (goalOf (formulas s))) a e (take (length p - 1) globals′) (take k names′) (take v values′) (record { words = w; links = l; globals = length p - 1; names = k; values = v; goal = getD p (length p - 1) 0; namings = n }))
-      (λ a b c d e f n. framed-read s r (g .says) (g .read) a f given-many b globals′ c d e n few) h i wide el eg y en
+      → Framed (tableauIn s) (positive (goalOf (formulas s))) ms ln (take (length places - 1) globals′) (take k names′) (take v values′) (record { words = w; globals = length places - 1; names = k; values = v; goal = getD places (length places - 1) 0; namings = n })
+  given-framed h i few {w} {n} globals′ {names} {values} {names′} {values′} {k} {v} wide eg y en =
+      given-by (λ a e c p. length e ≤ 8 → length a ≤ 72 → WordsFor (length e) w → take (length p - 1) globals′ ≡ take (length p - 1) p → Parts a e c names values names′ values′ k v → n ≡ 2 ^ ((length e - 1) * k)
+      → Framed (tableauIn s) (positive (goalOf (formulas s))) a e (take (length p - 1) globals′) (take k names′) (take v values′) (record { words = w; globals = length p - 1; names = k; values = v; goal = getD p (length p - 1) 0; namings = n }))
+      (λ a b c e f n. framed-read s r (g .says) (g .read) a f given-many b globals′ c e n few) h i wide eg y en
 
 -- ---- call by call
 
@@ -256,6 +246,6 @@ module _ {ms ln kinds places globals names values : List ℕ} (x : Frames ms ln 
     pub count-asks : (k ≤ 2) × ((length ln ≤ 8) × (0 < k → 0 < length ln))
     count-asks = let f = given-few (x .given) frame-narrow parts in (f .0, (frame-narrow, f .1))
 
-    pub frame-is : {w l n : ℕ} (globals′ : List ℕ) → WordsFor (length ln) w → l ≡ linkRoom ms w → take (length places - 1) globals′ ≡ take (length places - 1) places → n ≡ 2 ^ ((length ln - 1) * k)
-        → FramedAs ms ln kinds places globals′ names′ values′ (record { words = w; links = l; globals = length places - 1; names = k; values = v; goal = getD places (length places - 1) 0; namings = n })
-    frame-is globals′ wide el eg en = λ s r g. given-framed g frame-narrow frame-small (let a = frame-few in let b = g .many in omega arith) globals′ wide el eg parts en
+    pub frame-is : {w n : ℕ} (globals′ : List ℕ) → WordsFor (length ln) w → take (length places - 1) globals′ ≡ take (length places - 1) places → n ≡ 2 ^ ((length ln - 1) * k)
+        → FramedAs ms ln kinds places globals′ names′ values′ (record { words = w; globals = length places - 1; names = k; values = v; goal = getD places (length places - 1) 0; namings = n })
+    frame-is globals′ wide eg en = λ s r g. given-framed g frame-narrow frame-small (let a = frame-few in let b = g .many in omega arith) globals′ wide eg parts en

@@ -115,7 +115,6 @@ module _ {s : List ℕ} {r : Reading} (x : ReadIs 64 8 s r) {k : ℕ} (e : k ≡
           values = f .values;
           valued = values′;
           words = f .words;
-          links = f .links;
           goal = f .goal;
           namings = f .namings;
         })

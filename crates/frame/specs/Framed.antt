@@ -9,9 +9,9 @@ use Rattle.ctl.specs.Positive.{positive}
 use Rattle.ctl.specs.Tableau.{Tableau, namings}
 use Rattle.sheet.specs.Refusal.{readRefusal}
 use Rattle.sheet.specs.Reading.{formulas, goalOf}
-use Rattle.links.specs.Links.{linkRoom}
+use Rattle.conditions.specs.Conditions.{Placed}
 use Rattle.tableau.specs.Matches.{Matches}
-use Rattle.truth.specs.Tables.{ExPlaced, Leans, Table, form}
+use Rattle.truth.specs.Tables.{Leans, Table, form}
 use Rattle.reader.specs.declared.Reading.{Reading}
 use Rattle.reader.specs.Reader.{Says}
 use Rattle.prepare.specs.Prepared.{kindsOf, leanOf, tableOf, tableauIn}
@@ -40,11 +40,13 @@ pub record Frames (ms ln kinds places globals names values : List ℕ) : Type 0 
   pub names-room : 8 ≤ length names
   pub values-room : 8 ≤ length values
 
--- a table with its lean, in which each EX over one mode has a place, globals of it, and value places
+-- a table with its lean, in which each EX and AX over one mode has a place, globals of it, and value places
 pub record Sound (ms ln globals values : List ℕ) : Type 0 where
   pub table : Table ms
+  pub few : length ms ≤ 72
   pub leans : Leans ms ln
-  pub places : ExPlaced ms ln
+  pub narrow : length ln ≤ 12
+  pub places : Placed ms ln
   pub globals-in : (i : ℕ) → i < length globals → getD globals i 0 < length ms
   pub values-in : (i : ℕ) → i < length values → getD values i 0 ≤ 60
 
@@ -55,8 +57,6 @@ pub record Framed (S : Tableau) (goal : Form) (ms ln globals names values : List
   pub enough : 2 ^ length ln ≤ f .words * 64
   pub few-words : (1 ≤ f .words) × (f .words ≤ 4)
   pub no-more : f .words * 64 ≤ max 64 (2 ^ length ln)
-  pub few-truths : length ms * f .words ≤ 288
-  pub links-are : f .links ≡ linkRoom ms (f .words)
   pub goal-inside : f .goal < length ms
   pub goal-is : form ms (f .goal) ≡ goal
   pub namings-are : f .namings ≡ namings S

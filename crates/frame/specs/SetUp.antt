@@ -26,7 +26,6 @@ nothingBy k = record {
   values = 0;
   valued = replicate 8 0;
   words = 0;
-  links = 0;
   goal = 0;
   namings = 0;
 }
@@ -48,7 +47,7 @@ abbrev pub valuesIn : Setup → List ℕ
 valuesIn r = take (r .values) (r .valued)
 
 abbrev pub frameIn : Setup → Frame
-frameIn r = record { words = r .words; links = r .links; globals = r .globals; names = r .names; values = r .values; goal = r .goal; namings = r .namings }
+frameIn r = record { words = r .words; globals = r .globals; names = r .names; values = r .values; goal = r .goal; namings = r .namings }
 
 -- that of a sheet which is not refused
 pub record Accepts (s : List ℕ) (r : Setup) : Type 0 where

@@ -1,11 +1,10 @@
 // From a sheet's bytes to what judging it needs, all that depends on the sheet alone, once for all namings: first what is read off the sheet,
-// then the words that are computed from it, in stores that are lent by its size. Assumes nothing.
+// then the words that are computed from it, in stores that are lent. Assumes nothing.
 ghost use mathlib.Core.Path.{_≡_};
 ghost use mathlib.Core.List.{List};
 ghost use Prim.Native.Nat.{ℕ, _+_, _-_, _*_, _^_, _≤_, _<_};
 ghost use lib.ListN.{length, getD, take};
 ghost use Rattle.tableau.specs.Families.{Ready};
-ghost use Rattle.links.specs.Links.{linkRoom};
 ghost use Rattle.start.specs.Starts.{Based, inBase, Named};
 ghost use Rattle.frame.specs.Framed.{Frames, FramedAs, Sound};
 ghost use Rattle.frame.specs.SetUp.{Accepts, SetUp, globalsIn, leanIn, membersIn, namesIn, nothingBy, valuesIn};
@@ -34,11 +33,10 @@ fn count_namings(names: usize, width: usize) -> u64
     1 << ((width - 1) * names)
 }
 
-// How many words hold the types, and how many link words they need; how many globals, names and values there are; the goal's place in the
+// How many words hold the types; how many globals, names and values there are; the goal's place in the
 // table; how many namings there are.
 pub struct Frame {
     pub words: usize,
-    pub links: usize,
     pub globals: usize,
     pub names: usize,
     pub values: usize,
@@ -60,7 +58,6 @@ fn frame_of(
     ensures { λ f. ⌜ FramedAs (now (ms .entry)) (now (ln .entry)) (now (kinds .entry)) (now (places .entry)) (now (globals .exit)) (now (names .exit)) (now (values .exit)) f ⌝ }
 {
     let w = prepare::words_for(ln.len());
-    let links = links::link_room(ms, w);
     let n = places.len() - 1;
     copy_places(places, n, globals);
     let k = prepare::kind_places(ms, ln, kinds, 2, names);
@@ -68,7 +65,6 @@ fn frame_of(
     let namings = count_namings(k, ln.len());
     Frame {
         words: w,
-        links,
         globals: n,
         names: k,
         values: v,
@@ -92,7 +88,6 @@ pub struct Setup {
     pub values: usize,
     pub valued: [u8; 8],
     pub words: usize,
-    pub links: usize,
     pub goal: usize,
     pub namings: u64,
 }
@@ -113,7 +108,6 @@ fn nothing(k: u8) -> Setup
         values: 0,
         valued: [0u8; 8],
         words: 0,
-        links: 0,
         goal: 0,
         namings: 0,
     }
@@ -162,13 +156,13 @@ pub fn set_up(s: &[u8]) -> Setup
         values: f.values,
         valued,
         words: f.words,
-        links: f.links,
         goal: f.goal,
         namings: f.namings,
     }
 }
 
-// Truth words and link words, and in `base` the types that hold one value and in which all globals are true, by whether they have a name.
+// Truth words, condition words and needs, and in `base` the types that hold one value and in which all globals are true, by whether they
+// have a name: how many needs there are.
 fn fill_words(
     ms: &[u64],
     ln: &[u8],
@@ -177,24 +171,27 @@ fn fill_words(
     values: &[u8],
     names: &[u8],
     tw: &mut [u64],
-    lw: &mut [u64],
+    cw: &mut [u64],
+    ns: &mut [u64],
     base: &mut [u64],
-)
+) -> usize
     requires { ⌜ Sound (now ms) (now ln) (now globals) (now values) × Named (now names) (length (now ln)) ⌝ }
-    requires { ⌜ (w ≤ 4) × (length (now ms) * w ≤ length (now tw)) × (linkRoom (now ms) w ≤ length (now lw)) × (w + w ≤ length (now base)) ⌝ }
-    ensures { λ _. ⌜ Ready (now (ms .entry)) (now (ln .entry)) w (now (tw .exit)) (now (lw .exit)) ⌝ }
+    requires { ⌜ (w ≤ 4) × (324 ≤ length (now tw)) × (272 ≤ length (now cw)) × (80 ≤ length (now ns)) × (w + w ≤ length (now base)) ⌝ }
+    ensures { λ n. ⌜ (n ≤ length (now (ns .exit))) × Ready (now (ms .entry)) (now (ln .entry)) w (now (tw .exit)) (now (cw .exit)) (take n (now (ns .exit))) ⌝ }
     ensures { λ _. ⌜ Based w (inBase (now (ms .entry)) (now (ln .entry)) (now (globals .entry)) (now (values .entry))) (now (names .entry)) (now (base .exit)) ⌝ }
 {
     truth::truth_words(ms, ln, tw, w);
-    links::link_words(ms, ln, tw, lw, w);
+    needs::field_words(ms, ln, tw, w);
+    conditions::condition_words(ms, ln, tw, w, cw);
     start::base_words(ms, ln, tw, w, globals, values, names, base);
+    needs::list_needs(ms, ns)
 }
 
-// The words that depend on the sheet alone, in stores that are lent by its size.
-pub fn fill(u: Setup, tw: &mut [u64], lw: &mut [u64], base: &mut [u64])
+// The words that depend on the sheet alone, in stores that are lent: how many needs there are.
+pub fn fill(u: Setup, tw: &mut [u64], cw: &mut [u64], ns: &mut [u64], base: &mut [u64]) -> usize
     requires { ⌜ ((s : List ℕ) × Accepts s u) ⌝ }
-    requires { ⌜ (288 ≤ length (now tw)) × (u .links ≤ length (now lw)) × (8 ≤ length (now base)) ⌝ }
-    ensures { λ _. ⌜ Ready (membersIn u) (leanIn u) (u .words) (now (tw .exit)) (now (lw .exit)) ⌝ }
+    requires { ⌜ (324 ≤ length (now tw)) × (272 ≤ length (now cw)) × (80 ≤ length (now ns)) × (8 ≤ length (now base)) ⌝ }
+    ensures { λ n. ⌜ (n ≤ length (now (ns .exit))) × Ready (membersIn u) (leanIn u) (u .words) (now (tw .exit)) (now (cw .exit)) (take n (now (ns .exit))) ⌝ }
     ensures { λ _. ⌜ Based (u .words) (inBase (membersIn u) (leanIn u) (globalsIn u) (valuesIn u)) (namesIn u) (now (base .exit)) ⌝ }
 {
     let members = u.members;
@@ -210,7 +207,8 @@ pub fn fill(u: Setup, tw: &mut [u64], lw: &mut [u64], base: &mut [u64])
         &valued[..u.values],
         &named[..u.names],
         tw,
-        lw,
+        cw,
+        ns,
         base,
-    );
+    )
 }

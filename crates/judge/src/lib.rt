@@ -23,26 +23,29 @@ pub fn fill_table(
     ln: &[u8],
     w: usize,
     tw: &[u64],
-    lw: &[u64],
+    cw: &[u64],
+    ns: &[u64],
     names: &[u8],
     base: &[u64],
     r: u64,
     first: &mut [u64],
     second: &mut [u64],
 ) -> Counts
-    requires { ⌜ Ready (now ms) (now ln) w (now tw) (now lw) ⌝ }
+    requires { ⌜ Ready (now ms) (now ln) w (now tw) (now cw) (now ns) ⌝ }
     requires { ⌜ Places w (now ln) (now names) (now base) × ((w ≤ 4) × ((w ≤ length (now first)) × (w ≤ length (now second)))) ⌝ }
     ensures { λ c. ⌜ Tabled (startList w (now (base .entry)) (now (names .entry)) (length (now (ln .entry))) r) (Survivors (now (ms .entry)) (now (ln .entry)) (startList w (now (base .entry)) (now (names .entry)) (length (now (ln .entry))) r)) (Rounds (now (ms .entry)) (now (ln .entry)) (startList w (now (base .entry)) (now (names .entry)) (length (now (ln .entry))) r)) w (now (first .entry)) (now (second .entry)) (now (first .exit)) (now (second .exit)) c ⌝ }
 {
     let mut u = [0u64; 4];
     let mut todo = [0u64; 4];
     let mut v = [0u64; 4];
+    let mut rest = [0u64; 4];
     table(
         ms,
         ln,
         w,
         tw,
-        lw,
+        cw,
+        ns,
         names,
         r,
         base,
@@ -51,16 +54,18 @@ pub fn fill_table(
         &mut u,
         &mut todo,
         &mut v,
+        &mut rest,
     )
 }
 
-// The least surviving type of naming r that has the goal. The five stores are room to work in.
+// The least surviving type of naming r that has the goal. The six stores are room to work in.
 fn try_naming(
     ms: &[u64],
     ln: &[u8],
     w: usize,
     tw: &[u64],
-    lw: &[u64],
+    cw: &[u64],
+    ns: &[u64],
     names: &[u8],
     base: &[u64],
     goal: usize,
@@ -70,13 +75,30 @@ fn try_naming(
     u: &mut [u64],
     todo: &mut [u64],
     v: &mut [u64],
+    rest: &mut [u64],
 ) -> Found
-    requires { ⌜ Ready (now ms) (now ln) w (now tw) (now lw) ⌝ }
-    requires { ⌜ Room w (now first) (now second) (now u) (now todo) (now v) ⌝ }
+    requires { ⌜ Ready (now ms) (now ln) w (now tw) (now cw) (now ns) ⌝ }
+    requires { ⌜ Room w (now first) (now second) (now u) (now todo) (now v) (now rest) ⌝ }
     requires { ⌜ Places w (now ln) (now names) (now base) × (goal < length (now ms)) ⌝ }
     ensures { λ a. ⌜ a ≡ firstOf (goalsAt (now (ms .entry)) (now (ln .entry)) w (now (base .entry)) (now (names .entry)) goal r) ⌝ }
 {
-    table(ms, ln, w, tw, lw, names, r, base, first, second, u, todo, v);
+    table(
+        ms,
+        ln,
+        w,
+        tw,
+        cw,
+        ns,
+        names,
+        r,
+        base,
+        first,
+        second,
+        u,
+        todo,
+        v,
+        rest,
+    );
     goal_type(ms, ln, w, tw, goal, first)
 }
 
@@ -86,7 +108,8 @@ pub fn judge(
     ln: &[u8],
     w: usize,
     tw: &[u64],
-    lw: &[u64],
+    cw: &[u64],
+    ns: &[u64],
     names: &[u8],
     base: &[u64],
     goal: usize,
@@ -96,9 +119,10 @@ pub fn judge(
     u: &mut [u64],
     todo: &mut [u64],
     v: &mut [u64],
+    rest: &mut [u64],
 ) -> Verdict
-    requires { ⌜ Ready (now ms) (now ln) w (now tw) (now lw) ⌝ }
-    requires { ⌜ Room w (now first) (now second) (now u) (now todo) (now v) ⌝ }
+    requires { ⌜ Ready (now ms) (now ln) w (now tw) (now cw) (now ns) ⌝ }
+    requires { ⌜ Room w (now first) (now second) (now u) (now todo) (now v) (now rest) ⌝ }
     requires { ⌜ Places w (now ln) (now names) (now base) × (goal < length (now ms)) ⌝ }
     ensures { λ r. ⌜ Judged (goalsAt (now (ms .entry)) (now (ln .entry)) w (now (base .entry)) (now (names .entry)) goal) namings r ⌝ }
 {
@@ -110,7 +134,8 @@ pub fn judge(
             ln,
             w,
             tw,
-            lw,
+            cw,
+            ns,
             names,
             base,
             goal,
@@ -120,6 +145,7 @@ pub fn judge(
             u,
             todo,
             v,
+            rest,
         );
         if let Found::At(t) = found {
             return Verdict::Open {

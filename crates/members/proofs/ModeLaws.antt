@@ -9,9 +9,9 @@ use lib.Count.{trailingZeros}
 use borrow.Author.Tests.{eq-eqb, ne-eqb}
 use Rattle.ctl.specs.Lists as L
 use Rattle.ctl.proofs.BoolLaws.{T-true, and-0, and-1, and-in, both-ways, not-absurd, true-T}
-use Rattle.ctl.proofs.ModeLaws.{mode-lt, single-out, modes-has, modes-in, single-in}
+use Rattle.ctl.proofs.ModeLaws.{mode-lt, single-out, modes-has, modes-in}
 use Rattle.ctl.specs.Modes.{single, hasMode, modes}
-use Rattle.ctl.proofs.ListLaws.{all-in, all-out, any-in, any-out, below-in}
+use Rattle.ctl.proofs.ListLaws.{all-in, all-out, any-in, any-out}
 use Rattle.wordset.proofs.BelowLaws.{any-intro, least-holds, least-is, least-lt}
 use Rattle.wordset.proofs.BitLaws.{bit-pow, trailing-least}
 use Rattle.wordset.specs.Below.{anyBelow, least}
@@ -26,10 +26,13 @@ mode-bit a j = refl
 pub own-mode : (m : ℕ) → hasMode (2 ^ m) m ≡ true
 own-mode m = mode-bit (2 ^ m) m ∙ bit-pow m m ∙ eq-eqb m m refl
 
-trailing-pow : (k : ℕ) → k < 16 → trailingZeros 64 (2 ^ k) ≡ k
+pub trailing-pow : (k : ℕ) → k < 64 → trailingZeros 64 (2 ^ k) ≡ k
 trailing-pow k h =
     trailing-least 64 (2 ^ k)
-    ∙ least-is 64 (bit (2 ^ k)) k (omega arith) (bit-pow k k ∙ eq-eqb k k refl) (λ j l. bit-pow k j ∙ ne-eqb j k (omega arith))
+    ∙ least-is 64 (bit (2 ^ k)) k h (bit-pow k k ∙ eq-eqb k k refl) (λ j l. bit-pow k j ∙ ne-eqb j k (omega arith))
+
+pub power-same : (k m : ℕ) → k < 64 → m < 64 → 2 ^ k ≡ 2 ^ m → k ≡ m
+power-same k m h l e = sym (trailing-pow k h) ∙ ap (trailingZeros 64) e ∙ trailing-pow m l
 
 -- a set is not of one mode if it is not that of its lowest bit
 pub no-single : (a : ℕ) → (trailingZeros 64 a < 16 → a ≡ 2 ^ trailingZeros 64 a → ⊥) → single a ≡ true → ⊥
@@ -37,7 +40,7 @@ no-single a f e =
     let r = single-out a (T-true _ e) in
     let k = r .0 in
     let h : k < 16 = mode-lt (r .1) in
-    let q : trailingZeros 64 a ≡ k = ap (trailingZeros 64) (r .2) ∙ trailing-pow k h in
+    let q : trailingZeros 64 a ≡ k = ap (trailingZeros 64) (r .2) ∙ trailing-pow k (omega arith) in
     f (omega arith) (r .2 ∙ ap (λ (j : ℕ). 2 ^ j) (sym q))
 
 -- what the mode of a set tells
@@ -48,9 +51,6 @@ mode-wide (inr k) h = k .1
 pub mode-one : {r a : ℕ} → ((r < 16) × (a ≡ 2 ^ r)) ⊎ ((r ≡ 16) × (single a ≡ true → ⊥)) → r < 16 → a ≡ 2 ^ r
 mode-one (inl k) h = k .1
 mode-one (inr k) h = absurd (let l = k .0 in omega arith)
-
-pub mode-single : {r a : ℕ} → ((r < 16) × (a ≡ 2 ^ r)) ⊎ ((r ≡ 16) × (single a ≡ true → ⊥)) → r < 16 → single a ≡ true
-mode-single {r} {a} k h = ap single (mode-one k h) ∙ true-T (single (2 ^ r)) (single-in {m = r} (below-in h))
 
 -- ---- tests of the numbers below a bound
 

@@ -40,7 +40,8 @@ pub fn fill_page(
     ln: &[u8],
     w: usize,
     tw: &[u64],
-    lw: &[u64],
+    cw: &[u64],
+    ns: &[u64],
     names: &[u8],
     base: &[u64],
     goal: usize,
@@ -50,7 +51,7 @@ pub fn fill_page(
     used: usize,
     newline: &[u8],
 ) -> Page
-    requires { ⌜ Ready (now ms) (now ln) w (now tw) (now lw) ⌝ }
+    requires { ⌜ Ready (now ms) (now ln) w (now tw) (now cw) (now ns) ⌝ }
     requires { ⌜ Places w (now ln) (now names) (now base) × ((w ≤ 4) × (goal < length (now ms))) ⌝ }
     requires { ⌜ Judged (goalsAt (now ms) (now ln) w (now base) (now names) goal) (start .number) before ⌝ }
     requires { ⌜ (start .number ≤ start .count) × ((used + 256 ≤ length (now out)) × (length (now newline) ≤ 16)) ⌝ }
@@ -63,7 +64,19 @@ pub fn fill_page(
     let mut n = start;
     while n.number < n.count {
         let r = n.number;
-        let c = judge::fill_table(ms, ln, w, tw, lw, names, base, r, &mut first, &mut second);
+        let c = judge::fill_table(
+            ms,
+            ln,
+            w,
+            tw,
+            cw,
+            ns,
+            names,
+            base,
+            r,
+            &mut first,
+            &mut second,
+        );
         k = lines::put_naming(out, k, r, c, newline);
         let found = goal::goal_type(ms, ln, w, tw, goal, &first);
         v = later(v, r, found);

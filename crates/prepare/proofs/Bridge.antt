@@ -3,16 +3,16 @@ use mathlib.Core.Path.{_≡_, refl, sym, ap, _∙_, subst}
 use mathlib.Core.Logic.{_⊎_, inl, inr}
 use mathlib.Core.Bool.{true, _||_}
 use mathlib.Core.List.{List, [], _∷_, _++_, map, map-append, List·Memᴰ·head, List·Memᴰ·tail}
-use Prim.Native.Nat.{ℕ, zero, suc, _-_, _≤_, _<_}
+use Prim.Native.Nat.{ℕ, zero, suc, _-_, _^_, _≤_, _<_}
 use native.Mathlib.Omega.{arith}
 use native.Mathlib.Decide.{decLe}
 use lib.ListN.{length, getD, length-append, length-map, List·getD-append, List·getD-eq-default}
 use lib.Seq.{ext-getD, getD-at, length-take-le}
 use lib.Dec.{T, eqb}
 use Rattle.ctl.specs.Lists.{_∈_}
-use Rattle.ctl.specs.Formula.{Form, tru, lit}
-use Rattle.ctl.specs.Equality.{tag, num}
-use Rattle.ctl.specs.Modes.{single}
+use Rattle.ctl.specs.Formula.{Form, tru, lit, ax}
+use Rattle.ctl.specs.Equality.{tag, num, right}
+use Rattle.ctl.specs.Modes.{hasMode, single}
 use Rattle.ctl.specs.Raw.{Raw}
 use Rattle.ctl.specs.Positive.{positive}
 use Rattle.ctl.specs.Sorting.{Unique, more}
@@ -20,9 +20,10 @@ use Rattle.ctl.specs.Closure.{closure}
 use Rattle.ctl.specs.Lean.{isLetter, isNext, withValues, lean}
 use Rattle.ctl.specs.Tableau.{Tableau, tableauOf, namePlaces, valuePlaces}
 use Rattle.ctl.specs.Demand3.{sheetTableau}
-use Rattle.ctl.proofs.BoolLaws.{and-make, or-1, T-true}
+use Rattle.ctl.proofs.BoolLaws.{and-make, or-1, T-true, true-T}
 use Rattle.ctl.proofs.ListLaws.{getD-in}
 use Rattle.ctl.proofs.LeanOrder.{lean-members, with-in, with-out}
+use Rattle.ctl.proofs.ModeLaws.{mode-own, modes-in, single-in}
 use Rattle.ctl.proofs.ValueLaws.{places-none}
 use Rattle.sheet.specs.Refusal.{readRefusal}
 use Rattle.sheet.specs.Reading.{formulas, globalsOf, goalOf, spellOf, valuesIn}
@@ -30,13 +31,16 @@ use Rattle.sheet.proofs.SizeLaws.{formulas-many, texts-some}
 use Rattle.members.specs.Members.{Canon, Members, c-and, c-ar, c-au, c-ax, c-er, c-eu, c-ex, c-fls, c-lit, c-nlit, c-or, c-tru, forms, leftW, tagW, wordOf}
 use Rattle.members.proofs.MemberLaws.{canon-parts, forms-length, member, word-left, word-tag}
 use Rattle.lean.proofs.LeanLaws.{form-word}
-use Rattle.truth.specs.Tables.{ExPlaced, Leans, Table, argAt, form, leanForms, tagAt}
+use Rattle.truth.specs.Tables.{Leans, Table, argAt, form, leanForms, leftAt, rightAt, tagAt}
+use Rattle.truth.proofs.MemberLaws.{form-tag, left-in, tag-of}
+use Rattle.conditions.specs.Conditions.{Placed}
 use Rattle.tableau.specs.Matches.{Matches}
 use Rattle.reader.specs.declared.Reading.{Reading}
 use Rattle.reader.specs.Reader as R
 use Rattle.reader.specs.Reader.{Says}
 use Rattle.prepare.specs.Prepared.{leanOf, tableOf, tableauIn}
 use Rattle.prepare.proofs.NameCount.{proper}
+use Rattle.prepare.proofs.AuPlace.{au-next}
 
 -- ---- lists by their places
 
@@ -129,12 +133,16 @@ lean-not-tru : (spell : ℕ → List ℕ) (cl : List Form) → tru ∈ lean spel
 unfolding isNext
 lean-not-tru spell cl m = lean-members spell cl tru .0 m .1
 
-ex-next : (p : Form) → tag p ≡ 6 → single (num p) ≡ true → T (isNext p)
+-- EX or AX over one mode
+next-is : (p : Form) → 6 ≤ tag p → tag p ≤ 7 → single (num p) ≡ true → T (isNext p)
 unfolding isNext
-ex-next p e h = T-true _ (and-make (eqb (tag p) 6 || eqb (tag p) 7) (single (num p)) (six (tag p) e) h)
+next-is p a b h = T-true _ (and-make (eqb (tag p) 6 || eqb (tag p) 7) (single (num p)) (either (tag p) a b) h)
   where
-    six : (k : ℕ) → k ≡ 6 → eqb k 6 || eqb k 7 ≡ true
-    six k e = subst (λ i. eqb i 6 || eqb i 7 ≡ true) (sym e) refl
+    either : (k : ℕ) → 6 ≤ k → k ≤ 7 → eqb k 6 || eqb k 7 ≡ true
+    either k a b = elim (decLe k 6) [ yes c ↦ (let e : 6 ≡ k = omega arith in is e refl) | no c ↦ (let e : 7 ≡ k = omega arith in is e refl) ]
+      where
+        is : {i : ℕ} → i ≡ k → eqb i 6 || eqb i 7 ≡ true → eqb k 6 || eqb k 7 ≡ true
+        is e h = subst (λ j. eqb j 6 || eqb j 7 ≡ true) e h
 
 -- ---- what a sheet says
 
@@ -179,16 +187,60 @@ module _ (s : List ℕ) (r : Reading) (x : Says s r) where
   pub leans : r .width ≤ 60 → Leans ms ln
   leans h = record { short = (let n = lean-length in omega arith); inside = lean-inside }
 
-  -- each EX over one mode has a place in the lean
-  pub ex-places : ExPlaced ms ln
+  -- member i of the table is among the formulas
+  table-form : (i : ℕ) → i < length ms → form ms i ∈ R.tabled s
   unfolding form
-  ex-places i h g a =
+  table-form i h = x .tabled .only (form ms i) (getD-in tru (forms ms) i (let e = forms-length ms in omega arith))
+
+  -- EX or AX over one mode has a place in the lean
+  next-place : (p : Form) → p ∈ R.tabled s → T (isNext p) → (k : ℕ) × (k < length ln) × (form ms (getD ln k 0) ≡ p)
+  next-place p c n =
+      let f = form-place (R.places s) (lean-members (spellOf s) (R.tabled s) p .1 (c, or-1 (isLetter p) (isNext p) n)) in
+      let k : f .0 < length ln = (let b = f .1 in let e = lean-length in let v = x .lean-many in omega arith) in
+      (f .0, k, lean-form (f .0) k ∙ f .2)
+
+  nexts : (i : ℕ) → i < length ms → 6 ≤ tagAt ms i → tagAt ms i ≤ 7 → single (argAt ms i) ≡ true → (k : ℕ) × (k < length ln) × (getD ln k 0 ≡ i)
+  nexts i h a b c =
       let w = member-word (x .tabled .members) i h in
-      let n = ex-next (form ms i) (w .0 ∙ g) (ap single (w .1) ∙ a) in
-      let c : form ms i ∈ R.tabled s = x .tabled .only (form ms i) (getD-in tru (forms ms) i (let e = forms-length ms in omega arith)) in
-      let p = form-place (R.places s) (lean-members (spellOf s) (R.tabled s) (form ms i) .1 (c, or-1 (isLetter (form ms i)) (isNext (form ms i)) n)) in
-      let k : p .0 < length ln = (let b = p .1 in let e = lean-length in let v = x .lean-many in omega arith) in
-      (p .0, k, table .distinct (getD ln (p .0) 0) i (lean-inside (p .0) k) h (lean-form (p .0) k ∙ p .2))
+      let e = w .0 in
+      let n = next-is (form ms i) (omega arith) (omega arith) (ap single (w .1) ∙ c) in
+      let p = next-place (form ms i) (table-form i h) n in
+      (p .0, p .1, table .distinct (getD ln (p .0) 0) i (lean-inside (p .0) (p .1)) h (p .2))
+
+  -- an AU of the table is in the closure: it is no value
+  au-member : (i : ℕ) → i < length ms → tagAt ms i ≡ 9 → form ms i ∈ R.members s
+  au-member i h g = go (with-out (R.members s) (valuesIn s) (table-form i h))
+    where
+      go : (form ms i ∈ R.members s) ⊎ ((k : ℕ) × (k ∈ valuesIn s) × (form ms i ≡ lit k)) → form ms i ∈ R.members s
+      go (inl m) = m
+      go (inr w) = let a = tag-of table i h in let b = ap tag (w .2) in absurd (omega arith)
+
+  au-step : (i m : ℕ) → i < length ms → m < 16 → tagAt ms i ≡ 9 → hasMode (argAt ms i) m ≡ true → ax (2 ^ m) (form ms i) ∈ R.members s
+  au-step i m h b g a =
+      let e = form-tag table i h 9 g in
+      let c = subst (λ p. p ∈ R.members s) e (au-member i h g) in
+      subst (λ p. ax (2 ^ m) p ∈ R.members s) (sym e) (au-next (R.forms s) (argAt ms i) m (form ms (leftAt ms i)) (form ms (rightAt ms i)) b a c)
+
+  -- the word of AX over a mode, of member i
+  next-word : (j i m : ℕ) → j < length ms → i < length ms → form ms j ≡ ax (2 ^ m) (form ms i) → (tagAt ms j ≡ 7) × (argAt ms j ≡ 2 ^ m) × (leftAt ms j ≡ i)
+  next-word j i m h k e =
+      let w = member-word (x .tabled .members) j h in
+      let t : tagAt ms j ≡ 7 = sym (w .0) ∙ ap tag e in
+      let f : form ms j ≡ ax (argAt ms j) (form ms (leftAt ms j)) = form-tag table j h 7 t in
+      (t, sym (w .1) ∙ ap num e, table .distinct (leftAt ms j) i (left-in table j h (omega arith)) k (ap right (sym f ∙ e)))
+
+  -- each EX and AX over one mode has a place in the lean, and so has AX over a mode of an AU, of that AU
+  pub placed : Placed ms ln
+  placed = record {
+    nexts = nexts;
+    aus = λ i m h b g a c.
+        let l : m < 16 = omega arith in
+        let o = true-T (single (2 ^ m)) (single-in (modes-in (2 ^ m) (mode-own (2 ^ m) m l refl) .0)) in
+        let n = next-is (ax (2 ^ m) (form ms i)) (omega arith) (omega arith) o in
+        let p = next-place (ax (2 ^ m) (form ms i)) (with-in (R.members s) (valuesIn s) (au-step i m h l g a)) n in
+        let w = next-word (getD ln (p .0) 0) i m (lean-inside (p .0) (p .1)) h (p .2) in
+        (p .0, p .1, w .0, w .1, w .2);
+  }
 
   -- ---- the sheet's tableau
 

@@ -1,4 +1,5 @@
 pub mod NameCount
+pub mod AuPlace
 pub mod Bridge
 pub mod PlaceLaws
 pub mod PlaceBridge

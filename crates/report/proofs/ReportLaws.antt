@@ -20,7 +20,7 @@ module _ {s : List ℕ} {u : Setup} (x : SetUp s u) (e : u .refusal ≡ 0) where
   pub accepted : Accepts s u
   accepted = x .accepts (sym (x .is) ∙ e)
 
-  module _ (newline : List ℕ) {tw lw base : List ℕ} (f : Ready (membersIn u) (leanIn u) (u .words) tw lw × Based (u .words) (inBase (membersIn u) (leanIn u) (globalsIn u) (valuesIn u)) (namesIn u) base) where
+  module _ (newline : List ℕ) {tw cw ns base : List ℕ} (f : Ready (membersIn u) (leanIn u) (u .words) tw cw ns × Based (u .words) (inBase (membersIn u) (leanIn u) (globalsIn u) (valuesIn u)) (namesIn u) base) where
     -- a naming's line from its table is the sheet's
     line-is : (r : ℕ) → rowAt (membersIn u) (leanIn u) (u .words) base (namesIn u) newline r ≡ namingOf s newline r
     unfolding rowAt namingOf

@@ -33,7 +33,8 @@ fn write_pages(
     ln: &[u8],
     w: usize,
     tw: &[u64],
-    lw: &[u64],
+    cw: &[u64],
+    ns: &[u64],
     names: &[u8],
     base: &[u64],
     goal: usize,
@@ -42,7 +43,7 @@ fn write_pages(
 )
     requires { ⌜ now done ≡ 0 ⌝ }
     requires { ⌜ Prints (now sheet) (now newline) (now ms) (now ln) w (now base) (now names) goal namings ⌝ }
-    requires { ⌜ Ready (now ms) (now ln) w (now tw) (now lw) ⌝ }
+    requires { ⌜ Ready (now ms) (now ln) w (now tw) (now cw) (now ns) ⌝ }
     requires { ⌜ Places w (now ln) (now names) (now base) × ((w ≤ 4) × (goal < length (now ms))) ⌝ }
     requires { ⌜ (512 ≤ length (now out)) × (length (now newline) ≤ 16) ⌝ }
     ensures { λ _. ⌜ now (done .exit) ≡ length (linesOf (now (sheet .entry)) (now (newline .entry))) ⌝ }
@@ -56,7 +57,8 @@ fn write_pages(
             ln,
             w,
             tw,
-            lw,
+            cw,
+            ns,
             names,
             base,
             goal,
@@ -91,19 +93,21 @@ fn refused(sheet: &[u8], k: u8, newline: &[u8], done: &mut u64)
     write_lines(sheet, newline, done, 1, &out[..n]);
 }
 
-// Writes the lines of a sheet that is not refused, with the link words in lw. What depends on the sheet alone is computed once, before the first naming.
-fn report_in(sheet: &[u8], u: Setup, newline: &[u8], done: &mut u64, lw: &mut [u64])
+// Writes the lines of a sheet that is not refused. What depends on the sheet alone is computed once, before the first naming.
+fn accepted(sheet: &[u8], u: Setup, newline: &[u8], done: &mut u64)
     requires { ⌜ now done ≡ 0 ⌝ }
     requires { ⌜ SetUp (now sheet) u ⌝ }
-    requires { ⌜ (u .refusal ≡ 0) × ((u .links ≤ length (now lw)) × (length (now newline) ≤ 16)) ⌝ }
+    requires { ⌜ (u .refusal ≡ 0) × (length (now newline) ≤ 16) ⌝ }
     ensures { λ _. ⌜ now (done .exit) ≡ length (linesOf (now (sheet .entry)) (now (newline .entry))) ⌝ }
 {
     let members = u.members;
     let lean = u.lean;
     let named = u.named;
-    let mut tw = [0u64; 288];
+    let mut tw = [0u64; 324];
+    let mut cw = [0u64; 272];
+    let mut ns = [0u64; 80];
     let mut base = [0u64; 8];
-    frame::fill(u, &mut tw, lw, &mut base);
+    let n = frame::fill(u, &mut tw, &mut cw, &mut ns, &mut base);
     let mut out = [0u8; 8192];
     write_pages(
         sheet,
@@ -113,40 +117,14 @@ fn report_in(sheet: &[u8], u: Setup, newline: &[u8], done: &mut u64, lw: &mut [u
         &lean[..u.width],
         u.words,
         &tw,
-        lw,
+        &cw,
+        &ns[..n],
         &named[..u.names],
         &base,
         u.goal,
         u.namings,
         &mut out,
     );
-}
-
-// The same, with a store of link words that fits.
-fn fitted_report(sheet: &[u8], u: Setup, newline: &[u8], done: &mut u64)
-    requires { ⌜ now done ≡ 0 ⌝ }
-    requires { ⌜ SetUp (now sheet) u ⌝ }
-    requires { ⌜ (u .refusal ≡ 0) × (length (now newline) ≤ 16) ⌝ }
-    ensures { λ _. ⌜ now (done .exit) ≡ length (linesOf (now (sheet .entry)) (now (newline .entry))) ⌝ }
-{
-    let n = u.links;
-    if n <= 528 {
-        let mut lw = [0u64; 528];
-        report_in(sheet, u, newline, done, &mut lw);
-        return;
-    }
-    if n <= 2064 {
-        let mut lw = [0u64; 2064];
-        report_in(sheet, u, newline, done, &mut lw);
-        return;
-    }
-    if n <= 4112 {
-        let mut lw = [0u64; 4112];
-        report_in(sheet, u, newline, done, &mut lw);
-        return;
-    }
-    let mut lw = [0u64; 16400];
-    report_in(sheet, u, newline, done, &mut lw);
 }
 
 // What ends a line: at most 16 bytes.
@@ -171,6 +149,6 @@ pub fn report(sheet: &[u8], newline: &[u8]) -> u64
         refused(sheet, k, end, &mut done);
         return done;
     }
-    fitted_report(sheet, u, end, &mut done);
+    accepted(sheet, u, end, &mut done);
     done
 }

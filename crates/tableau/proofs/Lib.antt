@@ -1,4 +1,5 @@
 pub mod Asks
+pub mod NeedFits
 pub mod Spreading
 pub mod Rounding
 pub mod Settling

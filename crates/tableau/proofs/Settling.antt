@@ -18,14 +18,14 @@ use Rattle.wordset.proofs.BelowLaws.{all-elim, all-intro, top}
 use Rattle.wordset.proofs.CompareLaws.{beq-refl, beq-true}
 use Rattle.wordset.proofs.PackLaws.{packed-self, equal-packed, packWord, packed-ext, packed-over}
 use Rattle.wordset.proofs.WordLaws.{drop-filled, length-filled}
-use Rattle.wordset.specs.Below.{allBelow}
+use Rattle.wordset.specs.Below.{allBelow, countBelow}
 use Rattle.wordset.specs.Words.{member, packed}
 use Rattle.members.specs.Members.{forms}
 use Rattle.truth.specs.Truths.{Tr}
-use Rattle.links.specs.Links.{Lk}
+use Rattle.conditions.specs.Conditions.{Lk}
 use Rattle.tableau.specs.Families.{Round, Rounds, Survivors}
 use Rattle.truth.specs.Blocks.{listOf}
-use Rattle.truth.proofs.ListWords.{list-ascend, list-elem, list-few, list-out, list-packed}
+use Rattle.truth.proofs.ListWords.{count-list, list-ascend, list-elem, list-few, list-out, list-packed}
 use Rattle.tableau.proofs.Rounding.{Fails}
 
 -- ---- rounds
@@ -90,6 +90,10 @@ module _ {ms ln : List ℕ} {w : ℕ} {start d e x y : List ℕ} {n : ℕ} (b : 
   now-list =
       list-packed w d x (Families ms ln start n) (b .room) (families-ascend (forms ms) (Tr ms ln) (Lk ms ln) start (b .ascends) n)
       (λ t m. b .below-top t (families-in ms ln start n t m)) (b .is)
+
+  -- the source has as many types as that family
+  pub count-now : countBelow (w * 64) (member x) ≡ length (Families ms ln start n)
+  count-now = count-list w x ∙ ap length now-list
 
   module _ (z : List ℕ) (q : z ≡ packed w (λ t. elem t (Round ms ln (listOf w x))) y) where
     -- the target after the round

@@ -26,7 +26,8 @@ use Rattle.members.specs.Members.{forms}
 use Rattle.truth.specs.Tables.{form, leftAt, rightAt, tagAt}
 use Rattle.truth.specs.Blocks.{has, listOf}
 use Rattle.truth.specs.Truths.{Tr, trueAt}
-use Rattle.tableau.specs.Families.{Follows, Good, Linked, Next, Ready, passes}
+use Rattle.tableau.specs.Families.{Follows, Good, Linked, Next, Ready, Until, passes, wants}
+use Rattle.tableau.proofs.Asks.{wants-is}
 use Rattle.truth.proofs.ListWords.{join-member, list-in, list-out}
 use Rattle.truth.proofs.MemberLaws.{form-tag, left-in, right-in}
 use Rattle.truth.proofs.TruthLaws.{truth-bit}
@@ -83,14 +84,11 @@ begun ms ln i t = trueAt ms ln (rightAt ms i) t
 unfoldable pub Reached : List ℕ → List ℕ → ℕ → ℕ → List ℕ → List ℕ
 Reached ms ln w i src = reach (listOf w src) (asked ms ln i) (begun ms ln i)
 
-pub record Spreading (ms ln : List ℕ) (w i : ℕ) (src u₀ todo₀ v₀ u todo v : List ℕ) : Type 0 where
-  pub long : length u ≡ length u₀
-  pub long-todo : length todo ≡ length todo₀
-  pub long-v : length v ≡ length v₀
+pub record Spreading (ms ln : List ℕ) (w i : ℕ) (src u : List ℕ) : Type 0 where
   pub sound : (t : ℕ) → t < w * 64 → T (member u t) → t ∈ Reached ms ln w i src
   pub base : (t : ℕ) → t ∈ listOf w src → T (begun ms ln i t) → T (member u t)
 
-module _ {ms ln : List ℕ} {w : ℕ} {tw lw : List ℕ} (r : Ready ms ln w tw lw) (i : ℕ) (h : i < length ms) (g : (8 ≤ tagAt ms i) × (tagAt ms i ≤ 9)) (src : List ℕ) where
+module _ {ms ln : List ℕ} {w : ℕ} {tw cw ns : List ℕ} (r : Ready ms ln w tw cw ns) (i : ℕ) (h : i < length ms) (g : (8 ≤ tagAt ms i) × (tagAt ms i ≤ 9)) (src : List ℕ) where
   kind : (tagAt ms i ≡ 8) ⊎ (tagAt ms i ≡ 9)
   kind = ⊎-elim (λ e. inl e) (λ f. inr (let a = g .0 in let b = g .1 in omega arith)) (same-or (tagAt ms i) 8)
 
@@ -112,12 +110,9 @@ module _ {ms ln : List ℕ} {w : ℕ} {tw lw : List ℕ} (r : Ready ms ln w tw l
       kind
 
   -- the beginning: the family's types with the right operand
-  pub spread-start : (u todo v : List ℕ) (q : ℕ) → q ≡ rightAt ms i → ((t : ℕ) → t < w * 64 → member u t ≡ (member src t && has w tw q t)) → Spreading ms ln w i src u todo v u todo v
+  pub spread-start : (u : List ℕ) (q : ℕ) → q ≡ rightAt ms i → ((t : ℕ) → t < w * 64 → member u t ≡ (member src t && has w tw q t)) → Spreading ms ln w i src u
   unfolding Reached begun
-  spread-start u todo v q e f = record {
-    long = refl;
-    long-todo = refl;
-    long-v = refl;
+  spread-start u q e f = record {
     sound = λ t l m. (let a = T-cast (f t l) m in
         reach-first (listOf w src) (asked ms ln i) (begun ms ln i) (list-in w src l (and-0 (member src t) (has w tw q t) a)) (T-cast (here t l) (and-1 (member src t) (has w tw q t) a)));
     base = λ t m b. (let k = list-out w src m in T-cast⁻ (f t (k .0)) (and-in (member src t) (has w tw q t) (k .1) (T-cast⁻ (here t (k .0)) b)));
@@ -126,7 +121,7 @@ module _ {ms ln : List ℕ} {w : ℕ} {tw lw : List ℕ} (r : Ready ms ln w tw l
       here : (t : ℕ) → t < w * 64 → has w tw q t ≡ trueAt ms ln (rightAt ms i) t
       here t l = ap (λ j. has w tw j t) e ∙ truth-bit (r .truths) (rightAt ms i) (right-in (r .table) i h (let a = g .0 in omega arith)) t l
 
-  module _ {u₀ todo₀ v₀ u todo v : List ℕ} (s : Spreading ms ln w i src u₀ todo₀ v₀ u todo v) where
+  module _ {u : List ℕ} (s : Spreading ms ln w i src u) where
     -- it has all that are asked for
     pub spread-covers : (dst : List ℕ) → true ≡ not (anyBelow (w * 64) (λ t. (member dst t && has w tw i t) && not (member u t)))
         → (t : ℕ) → t < w * 64 → member dst t ≡ true → has w tw i t ≡ true → member u t ≡ elem t (Good ms ln (listOf w src) (form ms i))
@@ -159,12 +154,9 @@ module _ {ms ln : List ℕ} {w : ℕ} {tw lw : List ℕ} (r : Ready ms ln w tw l
       inside : (x : ℕ) → x ∈ listOf w u → x ∈ Reached ms ln w i src
       inside x m = let k = list-out w u m in s .sound x (k .0) (k .1)
 
-      pub spread-on : (u′ todo′ w′ : List ℕ) → w ≤ length u → length todo′ ≡ length todo₀ → length w′ ≡ length v₀ → length u′ ≡ length u → u′ ≡ join w u v′ → Spreading ms ln w i src u₀ todo₀ v₀ u′ todo′ w′
+      pub spread-on : (u′ : List ℕ) → w ≤ length u → u′ ≡ join w u v′ → Spreading ms ln w i src u′
       unfolding Reached
-      spread-on u′ todo′ w′ k lt lv lu q = record {
-        long = lu ∙ s .long;
-        long-todo = lt;
-        long-v = lv;
+      spread-on u′ k q = record {
         sound = λ t l m. ⊎-elim (λ x. s .sound t l x) (λ x. (let f = found t l x in
             reach-next (listOf w src) (asked ms ln i) (begun ms ln i) (f .0) (asked-more (listOf w u) (Reached ms ln w i src) inside t (f .1)))) (or-out (member u t) (member v′ t) (T-cast (both t l) m));
         base = λ t m b. (let k = list-out w src m in T-cast⁻ (both t (k .0)) (or-0 (member u t) (member v′ t) (s .base t m b)));
@@ -215,3 +207,21 @@ module _ {ms ln : List ℕ} {w : ℕ} {tw lw : List ℕ} (r : Ready ms ln w tw l
           into {t} m =
               reach-out (listOf w src) (asked ms ln i) (λ n t. t ∈ listOf w u) (λ n t x. x) (λ n Y t m sub a. closed Y t m sub a) (begun ms ln i)
               (λ t m b. (let k = list-out w src m in list-in w u (k .0) (s .base t m b))) t (unfold Reached in m) .1
+
+-- ---- the loop, for whichever table the words are of
+
+pub record Spreads (w : ℕ) (tw cw ns : List ℕ) (x : ℕ) (src u₀ todo₀ v₀ rest₀ u todo v rest : List ℕ) : Type 0 where
+  pub long : length u ≡ length u₀
+  pub long-todo : length todo ≡ length todo₀
+  pub long-v : length v ≡ length v₀
+  pub long-rest : length rest ≡ length rest₀
+  pub is : (ms ln : List ℕ) (i : ℕ) → Ready ms ln w tw cw ns → Until ms x i → Spreading ms ln w i src u
+
+-- what a need asks by words is what its member asks
+pub wanted : {ms ln : List ℕ} {w : ℕ} {tw cw ns : List ℕ} {x i : ℕ} → Ready ms ln w tw cw ns → Until ms x i → (us b v : List ℕ)
+    → ((t : ℕ) → t < w * 64 → member v t ≡ (member b t && wants w tw cw ns (member us) x t)) → (t : ℕ) → t < w * 64 → member v t ≡ (member b t && passes ms ln (listOf w us) t (form ms i))
+wanted {x = x} {i = i} r k us b v f t l = f t l ∙ ap (λ z. member b t && z) (wants-is r us t x i l k)
+
+pub covered : (w : ℕ) (tw dst u : List ℕ) {j i : ℕ} → j ≡ i → true ≡ not (anyBelow (w * 64) (λ t. (member dst t && has w tw j t) && not (member u t)))
+    → true ≡ not (anyBelow (w * 64) (λ t. (member dst t && has w tw i t) && not (member u t)))
+covered w tw dst u q e = e ∙ ap (λ j. not (anyBelow (w * 64) (λ t. (member dst t && has w tw j t) && not (member u t)))) q

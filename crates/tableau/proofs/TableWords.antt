@@ -13,7 +13,7 @@ use Rattle.wordset.specs.Words.{member, packed}
 use Rattle.tableau.specs.declared.table.Counts.{Counts}
 use Rattle.members.specs.Members.{forms}
 use Rattle.truth.specs.Truths.{Tr}
-use Rattle.links.specs.Links.{Lk}
+use Rattle.conditions.specs.Conditions.{Lk}
 use Rattle.tableau.specs.Families.{Rounds, Survivors}
 use Rattle.truth.specs.Blocks.{listOf}
 use Rattle.start.specs.Starts.{startList, startsBy}

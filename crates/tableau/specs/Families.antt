@@ -1,25 +1,65 @@
 -- Families of types as words, and what a member asks of a type against a set. Assumes nothing.
-use mathlib.Core.Bool.{Bool, true, not, _&&_}
+use mathlib.Core.Path.{_≡_}
+use mathlib.Core.Bool.{Bool, true, not, _&&_, _||_, cond}
 use mathlib.Core.List.{List}
-use Prim.Native.Nat.{ℕ, _≤_}
+use Prim.Native.Nat.{ℕ, _≤_, _<_}
+use lib.Dec.{eqb}
+use lib.ListN.{length, getD}
 use Rattle.ctl.specs.Elimination as E
 use Rattle.ctl.specs.ClosedFamily.{linked}
 use Rattle.ctl.specs.Formula.{Form, tru, fls, lit, nlit, and, or, ex, ax, eu, au, er, ar}
 use Rattle.ctl.specs.Lists.{anyOf, allOf, elem, imp}
-use Rattle.ctl.specs.Modes.{single}
-use Rattle.members.specs.Members.{forms}
-use Rattle.truth.specs.Tables.{ExPlaced, Leans, Table}
+use Rattle.ctl.specs.Modes.{hasMode, single}
+use Rattle.wordset.specs.Below.{allBelow, anyBelow}
+use Rattle.wordset.specs.Words.{member}
+use Rattle.members.specs.Members.{argW, forms, leftW, tagW}
+use Rattle.truth.specs.Blocks.{has, listOf}
+use Rattle.truth.specs.Tables.{Table, form, tagAt}
 use Rattle.truth.specs.Truths.{Tr, Truths}
-use Rattle.links.specs.Links.{Lk, Rows}
+use Rattle.conditions.specs.Entries.{linkedTo, side}
+use Rattle.conditions.specs.Conditions.{Conditions, Lk}
+use Rattle.needs.specs.NeedWords.{modeW, needOf, wholeW}
+use Rattle.needs.specs.Needs.{Fields, Listed}
 
--- what the elimination goes by
-pub record Ready (ms ln : List ℕ) (w : ℕ) (tw lw : List ℕ) : Type 0 where
+-- what the elimination goes by: truth words with those of fields behind them, condition words, and the needs, of a table under a lean
+pub record Ready (ms ln : List ℕ) (w : ℕ) (tw cw ns : List ℕ) : Type 0 where
   pub table : Table ms
-  pub leans : Leans ms ln
+  pub few : length ms ≤ 240
   pub small : w ≤ 1024
   pub truths : Truths ms ln w tw
-  pub rows : Rows ms ln w lw
-  pub places : ExPlaced ms ln
+  pub fields : Fields ms ln w tw
+  pub links : Conditions ms ln w cw
+  pub listed : Listed ms ns
+
+-- they are those of some table under some lean
+abbrev pub Made : ℕ → List ℕ → List ℕ → List ℕ → Type 0
+Made w tw cw ns = (ms : List ℕ) × (ln : List ℕ) × Ready ms ln w tw cw ns
+
+-- need x is that of member i, an EU or an AU
+pub record Until (ms : List ℕ) (x i : ℕ) : Type 0 where
+  pub inside : i < length ms
+  pub low : 8 ≤ tagAt ms i
+  pub high : tagAt ms i ≤ 9
+  pub is : x ≡ needOf ms i
+
+-- ---- what a need asks of type t against a set, by words
+
+-- need x is an EX over one of the modes a
+abbrev pub exAlong : ℕ → ℕ → Bool
+exAlong a x = eqb (tagW x) 6 && hasMode a (modeW x)
+
+module _ (w : ℕ) (tw cw : List ℕ) where
+  -- t has not the need x, an EX, or is linked along its mode to a type of U with its body
+  unfoldable pub hasNext : (ℕ → Bool) → ℕ → ℕ → Bool
+  hasNext U x t = not (has w tw (wholeW x) t) || linkedTo w cw (side w cw (modeW x)) (λ c. U c && has w tw (leftW x) c) t
+
+  -- every EX over one of the modes a has its next in U
+  unfoldable pub hasNexts : List ℕ → (ℕ → Bool) → ℕ → ℕ → Bool
+  hasNexts ns U a t = allBelow (length ns) (λ j. imp (exAlong a (getD ns j 0)) (hasNext U (getD ns j 0) t))
+
+  -- what an EU or an AU asks of a type with its left operand
+  unfoldable pub wants : List ℕ → (ℕ → Bool) → ℕ → ℕ → Bool
+  wants ns U x t = cond (eqb (tagW x) 8) (anyBelow 16 (λ m. hasMode (argW x) m && linkedTo w cw (side w cw m) U t)) (hasNexts ns U (argW x) t)
 
 -- ctl's elimination, over the closure, the truth and the links of a table under a lean
 module _ (ms ln : List ℕ) where
@@ -62,3 +102,7 @@ module _ (ms ln : List ℕ) where
   -- member p is true in t, and t is not among those of the family that have what p asks for
   unfoldable pub lacks : List ℕ → ℕ → Form → Bool
   lacks fam t p = Tr ms ln t p && not (elem t (Good fam p))
+
+  -- t keeps its place in a family that is held by the words src, as far as need x goes
+  unfoldable pub stays : ℕ → List ℕ → List ℕ → List ℕ → ℕ → ℕ → Bool
+  stays w tw cw src x t = cond (eqb (tagW x) 6) (hasNext w tw cw (member src) x t) (not (has w tw (wholeW x) t) || elem t (Good (listOf w src) (form ms (wholeW x))))

@@ -1,131 +1,132 @@
-// The elimination, by words: a round keeps the types of a family that lack nothing which a true closure member asks for, and rounds go on
-// until one eliminates nothing. Assumes nothing.
+// The elimination, by words: a round keeps the types of a family that lack nothing which they need, and rounds go on until one eliminates
+// nothing. Assumes nothing.
+use image::confine;
+use image::confine_linked;
+use image::covers;
+use image::pick;
+use image::step;
 use members::parts::arg;
 use members::parts::has_mode;
 use members::parts::left;
-use members::parts::mode_of;
 use members::parts::right;
 use members::parts::tag;
-use reach::confine;
-use reach::confine_linked;
-use reach::covers;
-use reach::pick;
-use reach::step;
+use needs::parts::mode;
+use needs::parts::whole;
 ghost use mathlib.Core.Path.{_≡_};
-ghost use mathlib.Core.Bool.{Bool·beq, true, not, _&&_};
-ghost use Prim.Native.Nat.{ℕ, _+_, _*_, _≤_, _<_};
+ghost use mathlib.Core.Bool.{Bool·beq, true, _&&_};
+ghost use mathlib.Core.List.{List};
+ghost use Prim.Native.Nat.{ℕ, _*_, _≤_, _<_};
 ghost use lib.ListN.{length};
-ghost use Rattle.ctl.specs.Lists as L;
-ghost use Rattle.ctl.specs.Lists.{elem};
+ghost use Rattle.ctl.specs.Lists.{elem, imp};
 ghost use Rattle.wordset.specs.Below.{allBelow};
 ghost use Rattle.wordset.specs.Words.{member, packed};
-ghost use Rattle.members.specs.Members.{forms};
-ghost use Rattle.truth.specs.Tables.{form, tagAt};
+ghost use Rattle.members.specs.Members.{tagW};
+ghost use Rattle.truth.specs.Tables.{form};
 ghost use Rattle.truth.specs.Blocks.{has, listOf};
-ghost use Rattle.tableau.specs.Families.{Follows, Good, Ready, Round, Rounds, Survivors, lacks, passes};
+ghost use Rattle.needs.specs.NeedWords.{modeW};
+ghost use Rattle.needs.specs.Needs.{Among};
+ghost use Rattle.tableau.specs.Families.{Good, Made, Ready, Round, Rounds, Survivors, Until, exAlong, hasNext, hasNexts, stays, wants};
 
-// Those of dst stay in which member i, if it is EX over one of the modes a and true there, has its next in u. The first w words of v are
+// Whether need x is an EX over one of the modes a.
+fn along(x: u64, a: u64) -> bool
+    requires { ⌜ (tagW x ≡ 6 → modeW x < 16) ⌝ }
+    ensures { λ r. ⌜ r ≡ exAlong a x ⌝ }
+{
+    if tag(x) != 6 {
+        return false;
+    }
+    has_mode(a, mode(x))
+}
+
+// Those of dst stay in which need x, if it is an EX over one of the modes a, has its next in u. The first w words of v and of rest are
 // overwritten.
 fn follow(
-    ms: &[u64],
-    ln: &[u8],
-    w: usize,
     tw: &[u64],
-    lw: &[u64],
-    i: usize,
+    cw: &[u64],
+    w: usize,
+    x: u64,
     a: u64,
     u: &[u64],
     dst: &mut [u64],
     v: &mut [u64],
+    rest: &mut [u64],
 )
-    requires { ⌜ Ready (now ms) (now ln) w (now tw) (now lw) ⌝ }
-    requires { ⌜ (i < length (now ms)) × (w ≤ length (now u)) × (w ≤ length (now dst)) × (w ≤ length (now v)) ⌝ }
-    ensures { λ _. ⌜ ((t : ℕ) → t < w * 64 → member (now (dst .exit)) t ≡ (member (now (dst .entry)) t && Follows (now (ms .entry)) (now (ln .entry)) (listOf w (now (u .entry))) a t (form (now (ms .entry)) i))) ⌝ }
+    requires { ⌜ ((ns : List ℕ) × (Among ns x × Made w (now tw) (now cw) ns)) ⌝ }
+    requires { ⌜ (w ≤ length (now u)) × (w ≤ length (now dst)) × (w ≤ length (now v)) × (w ≤ length (now rest)) ⌝ }
+    ensures { λ _. ⌜ ((t : ℕ) → t < w * 64 → member (now (dst .exit)) t ≡ (member (now (dst .entry)) t && imp (exAlong a x) (hasNext w (now (tw .entry)) (now (cw .entry)) (member (now (u .entry))) x t))) ⌝ }
 {
-    let x = ms[i];
-    if tag(x) != 6 {
+    if !along(x, a) {
         return;
     }
-    let m = mode_of(arg(x));
-    if m >= 16 {
-        return;
-    }
-    if !has_mode(a, m) {
-        return;
-    }
-    let at = lw[m] as usize;
-    confine_linked(dst, v, u, tw, &lw[at..], w, i, left(x));
+    confine_linked(dst, v, rest, u, tw, cw, w, x);
 }
 
-// The same for every EX of the closure. Those over one mode are in the lean, and the others ask for nothing.
+// The same for every need, so that every EX over one of the modes a has its next in u.
 fn follow_all(
-    ms: &[u64],
-    ln: &[u8],
-    w: usize,
+    ns: &[u64],
     tw: &[u64],
-    lw: &[u64],
+    cw: &[u64],
+    w: usize,
     a: u64,
     u: &[u64],
     dst: &mut [u64],
     v: &mut [u64],
+    rest: &mut [u64],
 )
-    requires { ⌜ Ready (now ms) (now ln) w (now tw) (now lw) ⌝ }
-    requires { ⌜ (w ≤ length (now u)) × (w ≤ length (now dst)) × (w ≤ length (now v)) ⌝ }
-    ensures { λ _. ⌜ ((t : ℕ) → t < w * 64 → member (now (dst .exit)) t ≡ (member (now (dst .entry)) t && L.allOf (Follows (now (ms .entry)) (now (ln .entry)) (listOf w (now (u .entry))) a t) (forms (now (ms .entry))))) ⌝ }
+    requires { ⌜ Made w (now tw) (now cw) (now ns) ⌝ }
+    requires { ⌜ (w ≤ length (now u)) × (w ≤ length (now dst)) × (w ≤ length (now v)) × (w ≤ length (now rest)) ⌝ }
+    ensures { λ _. ⌜ ((t : ℕ) → t < w * 64 → member (now (dst .exit)) t ≡ (member (now (dst .entry)) t && hasNexts w (now (tw .entry)) (now (cw .entry)) (now (ns .entry)) (member (now (u .entry))) a t)) ⌝ }
 {
-    let mut k = 0;
-    while k < ln.len() {
-        follow(ms, ln, w, tw, lw, ln[k] as usize, a, u, dst, v);
-        k += 1;
+    let mut j = 0;
+    while j < ns.len() {
+        follow(tw, cw, w, ns[j], a, u, dst, v, rest);
+        j += 1;
     }
 }
 
-// Those of `todo` stay that have what member i, an EU or an AU, asks of them against u. The first w words of v are overwritten.
+// Those of `todo` stay that have what need x, an EU or an AU, asks of them against u. The first w words of v and of rest are overwritten.
 fn sift(
-    ms: &[u64],
-    ln: &[u8],
-    w: usize,
+    ns: &[u64],
     tw: &[u64],
-    lw: &[u64],
-    i: usize,
+    cw: &[u64],
+    w: usize,
+    x: u64,
     u: &[u64],
     todo: &mut [u64],
     v: &mut [u64],
+    rest: &mut [u64],
 )
-    requires { ⌜ Ready (now ms) (now ln) w (now tw) (now lw) ⌝ }
-    requires { ⌜ (i < length (now ms)) × (w ≤ length (now u)) × (w ≤ length (now todo)) × (w ≤ length (now v)) ⌝ }
-    requires { ⌜ (8 ≤ tagAt (now ms) i) × (tagAt (now ms) i ≤ 9) ⌝ }
-    ensures { λ _. ⌜ ((t : ℕ) → t < w * 64 → member (now (todo .exit)) t ≡ (member (now (todo .entry)) t && passes (now (ms .entry)) (now (ln .entry)) (listOf w (now (u .entry))) t (form (now (ms .entry)) i))) ⌝ }
+    requires { ⌜ Made w (now tw) (now cw) (now ns) ⌝ }
+    requires { ⌜ (w ≤ length (now u)) × (w ≤ length (now todo)) × (w ≤ length (now v)) × (w ≤ length (now rest)) ⌝ }
+    ensures { λ _. ⌜ ((t : ℕ) → t < w * 64 → member (now (todo .exit)) t ≡ (member (now (todo .entry)) t && wants w (now (tw .entry)) (now (cw .entry)) (now (ns .entry)) (member (now (u .entry))) x t)) ⌝ }
 {
-    let x = ms[i];
     if tag(x) == 8 {
-        step(todo, v, u, lw, w, arg(x));
+        step(todo, v, rest, u, cw, w, arg(x));
         return;
     }
-    follow_all(ms, ln, w, tw, lw, arg(x), u, todo, v);
+    follow_all(ns, tw, cw, w, arg(x), u, todo, v, rest);
 }
 
-// From the types of src with the right operand of member i, an EU or an AU, u grows by those with the left operand that have what member i
-// asks of them against u, until none is added, or until it has all types of dst in which member i is true.
+// From the types of src with the right operand of need x, an EU or an AU, u grows by those with the left operand that have what it asks of
+// them against u, until none is added, or until it has all types of dst that have the need.
 fn spread(
-    ms: &[u64],
-    ln: &[u8],
-    w: usize,
+    ns: &[u64],
     tw: &[u64],
-    lw: &[u64],
-    i: usize,
+    cw: &[u64],
+    w: usize,
+    x: u64,
     src: &[u64],
     dst: &[u64],
     u: &mut [u64],
     todo: &mut [u64],
     v: &mut [u64],
+    rest: &mut [u64],
 )
-    requires { ⌜ Ready (now ms) (now ln) w (now tw) (now lw) ⌝ }
-    requires { ⌜ (i < length (now ms)) × (w ≤ length (now src)) × (w ≤ length (now dst)) × (w ≤ length (now u)) × (w ≤ length (now todo)) × (w ≤ length (now v)) ⌝ }
-    requires { ⌜ (8 ≤ tagAt (now ms) i) × (tagAt (now ms) i ≤ 9) ⌝ }
-    ensures { λ _. ⌜ ((t : ℕ) → t < w * 64 → member (now (dst .entry)) t ≡ true → has w (now (tw .entry)) i t ≡ true → member (now (u .exit)) t ≡ elem t (Good (now (ms .entry)) (now (ln .entry)) (listOf w (now (src .entry))) (form (now (ms .entry)) i))) ⌝ }
+    requires { ⌜ Among (now ns) x × ((tagW x ≡ 6 → ⊥) × Made w (now tw) (now cw) (now ns)) ⌝ }
+    requires { ⌜ (w ≤ length (now src)) × (w ≤ length (now dst)) × (w ≤ length (now u)) × (w ≤ length (now todo)) × (w ≤ length (now v)) × (w ≤ length (now rest)) ⌝ }
+    ensures { λ _. ⌜ ((ms ln : List ℕ) (i : ℕ) → Ready ms ln w (now (tw .entry)) (now (cw .entry)) (now (ns .entry)) → Until ms x i → (t : ℕ) → t < w * 64 → member (now (dst .entry)) t ≡ true → has w (now (tw .entry)) i t ≡ true → member (now (u .exit)) t ≡ elem t (Good ms ln (listOf w (now (src .entry))) (form ms i))) ⌝ }
 {
-    let x = ms[i];
+    let i = whole(x);
     let p = left(x);
     pick(u, src, tw, w, right(x));
     let n = w * 64;
@@ -135,7 +136,7 @@ fn spread(
         }
         pick(todo, src, tw, w, p);
         wordset::subtract(todo, u, w);
-        sift(ms, ln, w, tw, lw, i, u, todo, v);
+        sift(ns, tw, cw, w, x, u, todo, v, rest);
         if wordset::first(todo, w) == n {
             return;
         }
@@ -143,69 +144,55 @@ fn spread(
     }
 }
 
-// Those of dst that lack what member i asks for against src are eliminated.
-fn eliminate_member(
-    ms: &[u64],
-    ln: &[u8],
-    w: usize,
+// Those of dst that lack what need x asks for against src are eliminated.
+fn eliminate_need(
+    ns: &[u64],
     tw: &[u64],
-    lw: &[u64],
-    i: usize,
+    cw: &[u64],
+    w: usize,
+    x: u64,
     src: &[u64],
     dst: &mut [u64],
     u: &mut [u64],
     todo: &mut [u64],
     v: &mut [u64],
+    rest: &mut [u64],
 )
-    requires { ⌜ Ready (now ms) (now ln) w (now tw) (now lw) ⌝ }
-    requires { ⌜ (i < length (now ms)) × (w ≤ length (now src)) × (w ≤ length (now dst)) × (w ≤ length (now u)) × (w ≤ length (now todo)) × (w ≤ length (now v)) ⌝ }
-    requires { ⌜ ((t : ℕ) → t < w * 64 → member (now dst) t ≡ true → member (now src) t ≡ true) ⌝ }
-    ensures { λ _. ⌜ now (dst .exit) ≡ packed w (λ t. member (now (dst .entry)) t && not (lacks (now (ms .entry)) (now (ln .entry)) (listOf w (now (src .entry))) t (form (now (ms .entry)) i))) (now (dst .entry)) ⌝ }
+    requires { ⌜ Among (now ns) x × Made w (now tw) (now cw) (now ns) ⌝ }
+    requires { ⌜ (w ≤ length (now src)) × (w ≤ length (now dst)) × (w ≤ length (now u)) × (w ≤ length (now todo)) × (w ≤ length (now v)) × (w ≤ length (now rest)) ⌝ }
+    ensures { λ _. ⌜ ((ms ln : List ℕ) → Ready ms ln w (now (tw .entry)) (now (cw .entry)) (now (ns .entry)) → now (dst .exit) ≡ packed w (λ t. member (now (dst .entry)) t && stays ms ln w (now (tw .entry)) (now (cw .entry)) (now (src .entry)) x t) (now (dst .entry))) ⌝ }
 {
-    let x = ms[i];
-    let g = tag(x);
-    if g == 6 {
-        let m = mode_of(arg(x));
-        if m >= 16 {
-            return;
-        }
-        let at = lw[m] as usize;
-        confine_linked(dst, v, src, tw, &lw[at..], w, i, left(x));
+    if tag(x) == 6 {
+        confine_linked(dst, v, rest, src, tw, cw, w, x);
         return;
     }
-    if g < 8 {
-        return;
-    }
-    if g > 9 {
-        return;
-    }
-    spread(ms, ln, w, tw, lw, i, src, dst, u, todo, v);
-    confine(dst, u, tw, w, i);
+    spread(ns, tw, cw, w, x, src, dst, u, todo, v, rest);
+    confine(dst, u, tw, w, whole(x));
 }
 
 // One round, from src into dst: whether it eliminated nothing.
 pub fn round(
-    ms: &[u64],
-    ln: &[u8],
-    w: usize,
+    ns: &[u64],
     tw: &[u64],
-    lw: &[u64],
+    cw: &[u64],
+    w: usize,
     src: &[u64],
     dst: &mut [u64],
     u: &mut [u64],
     todo: &mut [u64],
     v: &mut [u64],
+    rest: &mut [u64],
 ) -> bool
-    requires { ⌜ Ready (now ms) (now ln) w (now tw) (now lw) ⌝ }
-    requires { ⌜ (w ≤ length (now src)) × (w ≤ length (now dst)) × (w ≤ length (now u)) × (w ≤ length (now todo)) × (w ≤ length (now v)) ⌝ }
-    ensures { λ _. ⌜ now (dst .exit) ≡ packed w (λ t. elem t (Round (now (ms .entry)) (now (ln .entry)) (listOf w (now (src .entry))))) (now (dst .entry)) ⌝ }
+    requires { ⌜ Made w (now tw) (now cw) (now ns) ⌝ }
+    requires { ⌜ (w ≤ length (now src)) × (w ≤ length (now dst)) × (w ≤ length (now u)) × (w ≤ length (now todo)) × (w ≤ length (now v)) × (w ≤ length (now rest)) ⌝ }
+    ensures { λ _. ⌜ ((ms ln : List ℕ) → Ready ms ln w (now (tw .entry)) (now (cw .entry)) (now (ns .entry)) → now (dst .exit) ≡ packed w (λ t. elem t (Round ms ln (listOf w (now (src .entry))))) (now (dst .entry))) ⌝ }
     ensures { λ r. ⌜ r ≡ allBelow (w * 64) (λ t. Bool·beq (member (now (src .entry)) t) (member (now (dst .exit)) t)) ⌝ }
 {
     wordset::copy(dst, src, w);
-    let mut i = 0;
-    while i < ms.len() {
-        eliminate_member(ms, ln, w, tw, lw, i, src, dst, u, todo, v);
-        i += 1;
+    let mut j = 0;
+    while j < ns.len() {
+        eliminate_need(ns, tw, cw, w, ns[j], src, dst, u, todo, v, rest);
+        j += 1;
     }
     wordset::equal(src, dst, w)
 }
@@ -213,30 +200,30 @@ pub fn round(
 // Rounds from the first store into the second and back, until one eliminates nothing: how many eliminated something. Both stores then
 // hold the survivors.
 pub fn settle(
-    ms: &[u64],
-    ln: &[u8],
-    w: usize,
+    ns: &[u64],
     tw: &[u64],
-    lw: &[u64],
+    cw: &[u64],
+    w: usize,
     first: &mut [u64],
     second: &mut [u64],
     u: &mut [u64],
     todo: &mut [u64],
     v: &mut [u64],
+    rest: &mut [u64],
 ) -> usize
-    requires { ⌜ Ready (now ms) (now ln) w (now tw) (now lw) ⌝ }
-    requires { ⌜ (w ≤ length (now first)) × (w ≤ length (now second)) × (w ≤ length (now u)) × (w ≤ length (now todo)) × (w ≤ length (now v)) ⌝ }
-    ensures { λ r. ⌜ r ≡ Rounds (now (ms .entry)) (now (ln .entry)) (listOf w (now (first .entry))) ⌝ }
-    ensures { λ _. ⌜ now (first .exit) ≡ packed w (λ t. elem t (Survivors (now (ms .entry)) (now (ln .entry)) (listOf w (now (first .entry))))) (now (first .entry)) ⌝ }
-    ensures { λ _. ⌜ now (second .exit) ≡ packed w (λ t. elem t (Survivors (now (ms .entry)) (now (ln .entry)) (listOf w (now (first .entry))))) (now (second .entry)) ⌝ }
+    requires { ⌜ Made w (now tw) (now cw) (now ns) ⌝ }
+    requires { ⌜ (w ≤ length (now first)) × (w ≤ length (now second)) × (w ≤ length (now u)) × (w ≤ length (now todo)) × (w ≤ length (now v)) × (w ≤ length (now rest)) ⌝ }
+    ensures { λ r. ⌜ ((ms ln : List ℕ) → Ready ms ln w (now (tw .entry)) (now (cw .entry)) (now (ns .entry)) → r ≡ Rounds ms ln (listOf w (now (first .entry)))) ⌝ }
+    ensures { λ _. ⌜ ((ms ln : List ℕ) → Ready ms ln w (now (tw .entry)) (now (cw .entry)) (now (ns .entry)) → now (first .exit) ≡ packed w (λ t. elem t (Survivors ms ln (listOf w (now (first .entry))))) (now (first .entry))) ⌝ }
+    ensures { λ _. ⌜ ((ms ln : List ℕ) → Ready ms ln w (now (tw .entry)) (now (cw .entry)) (now (ns .entry)) → now (second .exit) ≡ packed w (λ t. elem t (Survivors ms ln (listOf w (now (first .entry))))) (now (second .entry))) ⌝ }
 {
     let mut n = 0;
     loop {
-        if round(ms, ln, w, tw, lw, first, second, u, todo, v) {
+        if round(ns, tw, cw, w, first, second, u, todo, v, rest) {
             return n;
         }
         n += 1;
-        if round(ms, ln, w, tw, lw, second, first, u, todo, v) {
+        if round(ns, tw, cw, w, second, first, u, todo, v, rest) {
             return n;
         }
         n += 1;

@@ -20,7 +20,8 @@ pub fn table(
     ln: &[u8],
     w: usize,
     tw: &[u64],
-    lw: &[u64],
+    cw: &[u64],
+    ns: &[u64],
     names: &[u8],
     r: u64,
     base: &[u64],
@@ -29,15 +30,16 @@ pub fn table(
     u: &mut [u64],
     todo: &mut [u64],
     v: &mut [u64],
+    rest: &mut [u64],
 ) -> Counts
-    requires { ⌜ Ready (now ms) (now ln) w (now tw) (now lw) ⌝ }
-    requires { ⌜ (w ≤ length (now first)) × (w ≤ length (now second)) × (w ≤ length (now u)) × (w ≤ length (now todo)) × (w ≤ length (now v)) ⌝ }
+    requires { ⌜ Ready (now ms) (now ln) w (now tw) (now cw) (now ns) ⌝ }
+    requires { ⌜ (w ≤ length (now first)) × (w ≤ length (now second)) × (w ≤ length (now u)) × (w ≤ length (now todo)) × (w ≤ length (now v)) × (w ≤ length (now rest)) ⌝ }
     requires { ⌜ Named (now names) (length (now ln)) × ((2 ^ length (now ln) ≤ w * 64) × (w + w ≤ length (now base))) ⌝ }
     ensures { λ c. ⌜ Tabled (startList w (now (base .entry)) (now (names .entry)) (length (now (ln .entry))) r) (Survivors (now (ms .entry)) (now (ln .entry)) (startList w (now (base .entry)) (now (names .entry)) (length (now (ln .entry))) r)) (Rounds (now (ms .entry)) (now (ln .entry)) (startList w (now (base .entry)) (now (names .entry)) (length (now (ln .entry))) r)) w (now (first .entry)) (now (second .entry)) (now (first .exit)) (now (second .exit)) c ⌝ }
 {
     start_words(names, ln.len(), r, w, base, first);
     let s = wordset::size(first, w);
-    let n = settle(ms, ln, w, tw, lw, first, second, u, todo, v);
+    let n = settle(ns, tw, cw, w, first, second, u, todo, v, rest);
     let l = wordset::size(first, w);
     Counts {
         start: s,

@@ -117,6 +117,3 @@ slot w j n k len h r l = let b = block-in w j n h in omega arith
 -- a part that goes to the end
 pub tail : (n : ℕ) (l : List ℕ) → take (length l - n) (drop n l) ≡ drop n l
 tail n l = take-all (length l - n) (drop n l) (omega (arith, length-drop n l))
-
-pub tail-room : (n k : ℕ) (l : List ℕ) → n + k ≤ length l → k ≤ length (take (length l - n) (drop n l))
-tail-room n k l h = let e : length (take (length l - n) (drop n l)) ≡ length l - n = ap length (tail n l) ∙ length-drop n l in omega arith

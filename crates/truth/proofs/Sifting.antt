@@ -2,7 +2,7 @@
 use mathlib.Core.Path.{_≡_, refl, sym, ap, ap₂, _∙_}
 use mathlib.Core.Bool.{and-true, and-false, or-false, Bool, true, false, not, _&&_, _||_}
 use mathlib.Core.List.{List}
-use Prim.Native.Nat.{ℕ, zero, suc, _+_, _-_, _*_, _/_, _%_, _^_, _≤_, _<_}
+use Prim.Native.Nat.{ℕ, zero, suc, _-_, _*_, _/_, _%_, _^_, _≤_, _<_}
 use native.Mathlib.Omega.{arith}
 use native.Mathlib.Nat.{pow-suc}
 use lib.Arith.{lt-one}
@@ -12,7 +12,6 @@ use lib.Dec.{eqb, eqb·suc-zero, eqb·suc-suc}
 use borrow.Author.Tests.{eqb-true, eq-eqb, ne-eqb}
 use Rattle.wordset.proofs.BelowLaws.{least-below, least-holds, least-is, least-le, least-lt}
 use Rattle.wordset.proofs.BitLaws.{any-bit, bit-and, bit-minus, bit-none, bit-suc, bit-zero, trailing-least}
-use Rattle.wordset.specs.Answers.{Answers}
 use Rattle.wordset.specs.Below.{least}
 use Rattle.wordset.specs.Word.{bit}
 use Rattle.wordset.specs.Words.{member}
@@ -105,13 +104,6 @@ module _ {Q : ℕ → Bool} {x rest acc : ℕ} (s : Sifting Q x rest acc) where
     is = λ c l. ap₂ (λ p q. p || (q && Q c)) (f c ∙ ap (λ z. bit acc c || (z && on)) (least-bit rest n (s .fits) c l)) (less-bit rest n (s .fits) c)
         ∙ turn (bit acc c) (bit rest c) (Q c) on (eqb c (trailingZeros 64 rest))
         (λ z. (let q : c ≡ trailingZeros 64 rest = eqb-true c (trailingZeros 64 rest) z in (ap (bit rest) q ∙ lowest 64 rest (omega arith) (s .fits) n .1, e ∙ ap Q (sym q)))) ∙ s .is c l;
-  }
-
-  -- nothing is left
-  pub sift-end : (P : ℕ → Bool) (R : ℕ → Bool) (k : ℕ) → rest ≡ 0 → ((b : ℕ) → Q b ≡ R (k * 64 + b)) → Answers P k x → Answers (λ t. P t && R t) k acc
-  sift-end P R k e f a = record {
-    small = s .small;
-    each = λ b h. ap₂ _&&_ (a .each b h) (sym (f b)) ∙ sym (s .is b h) ∙ ap (λ (n : ℕ). bit acc b || (bit n b && Q b)) e ∙ ap (λ z. bit acc b || (z && Q b)) (bit-none b) ∙ or-false (bit acc b);
   }
 
 -- the least member, where there is one

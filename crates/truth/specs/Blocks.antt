@@ -2,7 +2,7 @@
 use mathlib.Core.Bool.{Bool}
 use mathlib.Core.List.{List}
 use Prim.Native.Nat.{ℕ, _*_}
-use lib.ListN.{drop, getD}
+use lib.ListN.{drop}
 use Rattle.ctl.specs.Lists.{keep, below}
 use Rattle.wordset.specs.Words.{member}
 
@@ -13,7 +13,3 @@ has w ws i t = member (drop (i * w) ws) t
 -- the numbers that are members of the first w words, ascending
 unfoldable pub listOf : ℕ → List ℕ → List ℕ
 listOf w ws = keep (member ws) (below (w * 64))
-
--- the blocks that begin where word m of the store says: in the link words, the rows of mode m
-abbrev pub rowsOf : List ℕ → ℕ → List ℕ
-rowsOf lw m = drop (getD lw m 0) lw

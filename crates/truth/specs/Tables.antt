@@ -1,11 +1,9 @@
 -- A table of closure members with a lean: its members one by one, and what is asked of it. Assumes nothing.
 use mathlib.Core.Path.{_≡_}
-use mathlib.Core.Bool.{true}
 use mathlib.Core.List.{List, map}
 use Prim.Native.Nat.{ℕ, _≤_, _<_}
 use lib.ListN.{length, getD}
 use Rattle.ctl.specs.Formula.{Form, tru}
-use Rattle.ctl.specs.Modes.{single}
 use Rattle.members.specs.Members.{argW, forms, leftW, rightW, tagW}
 
 -- member i, and the parts of its word
@@ -39,7 +37,3 @@ pub record Table (ms : List ℕ) : Type 0 where
 pub record Leans (ms ln : List ℕ) : Type 0 where
   pub short : length ln ≤ 60
   pub inside : (k : ℕ) → k < length ln → getD ln k 0 < length ms
-
--- each EX over one mode has a place in the lean
-abbrev pub ExPlaced : List ℕ → List ℕ → Type 0
-ExPlaced ms ln = (i : ℕ) → i < length ms → tagAt ms i ≡ 6 → single (argAt ms i) ≡ true → (k : ℕ) × (k < length ln) × (getD ln k 0 ≡ i)

@@ -10,36 +10,46 @@ array-share-prefix-members : tie.Need-array-share-prefix-members
 array-share-prefix-members c = search needs
 
 slice-aggregate-fill-words : tie.Need-slice-aggregate-fill-words
-slice-aggregate-fill-words c = sym (length-take-le _ _ (c .before .before .before .before .before .before .before .before .before .pre .0 .1 .members-within))
+slice-aggregate-fill-words c =
+    let b10 = c .before .before .before .before .before .before .before .before .before .before in
+    sym (length-take-le _ _ (b10 .pre .0 .1 .members-within))
 
 array-share-prefix-lean : tie.Need-array-share-prefix-lean
 array-share-prefix-lean c = search needs
 
 slice-aggregate-fill-words-2 : tie.Need-slice-aggregate-fill-words-2
-slice-aggregate-fill-words-2 c = sym (length-take-le _ _ (c .before .before .before .before .before .before .before .before .before .before .pre .0 .1 .lean-within))
+slice-aggregate-fill-words-2 c =
+    let b11 = c .before .before .before .before .before .before .before .before .before .before .before in
+    sym (length-take-le _ _ (b11 .pre .0 .1 .lean-within))
 
 array-share-prefix-everywhere : tie.Need-array-share-prefix-everywhere
 array-share-prefix-everywhere c = search needs
 
 slice-aggregate-fill-words-3 : tie.Need-slice-aggregate-fill-words-3
-slice-aggregate-fill-words-3 c = sym (length-take-le _ _ (c .before .before .before .before .before .before .before .before .before .before .before .pre .0 .1 .globals-within))
+slice-aggregate-fill-words-3 c =
+    let b12 = c .before .before .before .before .before .before .before .before .before .before .before .before in
+    sym (length-take-le _ _ (b12 .pre .0 .1 .globals-within))
 
 array-share-prefix-valued : tie.Need-array-share-prefix-valued
 array-share-prefix-valued c = search needs
 
 slice-aggregate-fill-words-4 : tie.Need-slice-aggregate-fill-words-4
-slice-aggregate-fill-words-4 c = sym (length-take-le _ _ (c .before .before .before .before .before .before .before .before .before .before .before .before .pre .0 .1 .values-within))
+slice-aggregate-fill-words-4 c =
+    let b13 = c .before .before .before .before .before .before .before .before .before .before .before .before .before in
+    sym (length-take-le _ _ (b13 .pre .0 .1 .values-within))
 
 array-share-prefix-named : tie.Need-array-share-prefix-named
 array-share-prefix-named c = search needs
 
 slice-aggregate-fill-words-5 : tie.Need-slice-aggregate-fill-words-5
-slice-aggregate-fill-words-5 c = sym (length-take-le _ _ (c .before .before .before .before .before .before .before .before .before .before .before .before .before .pre .0 .1 .names-within))
+slice-aggregate-fill-words-5 c =
+    let b14 = c .before .before .before .before .before .before .before .before .before .before .before .before .before .before in
+    sym (length-take-le _ _ (b14 .pre .0 .1 .names-within))
 
 fill-words-requires : tie.Need-fill-words-requires
 fill-words-requires c κs =
-    let b16 = c .before .before .before .before .before .before .before .before .before .before .before .before .before .before .before .before in
-    fill-asks (b16 .pre .0 .1) _ _ _ (b16 .pre .1 .0) (b16 .pre .1 .1) (b16 .pre .1 .2)
+    let b18 = c .before .before .before .before .before .before .before .before .before .before .before .before .before .before .before .before .before .before in
+    fill-asks (b18 .pre .0 .1) _ _ _ _ (b18 .pre .1 .0) (b18 .pre .1 .1) (b18 .pre .1 .2) (b18 .pre .1 .3)
 
 same-length : tie.Need-same-length
 same-length c = search needs
@@ -49,6 +59,9 @@ same-length-2 c = search needs
 
 same-length-3 : tie.Need-same-length-3
 same-length-3 c = search needs
+
+same-length-4 : tie.Need-same-length-4
+same-length-4 c = search needs
 
 returns : tie.Need-returns
 returns c = search needs
@@ -71,4 +84,5 @@ fill-spec =
     same-length
     same-length-2
     same-length-3
+    same-length-4
     returns)

@@ -1,39 +1,49 @@
 -- `frame_of` meets its contract: what each call asks follows from the reading, and what the calls give is the frame. Assumes nothing.
 use native.Mathlib.Omega.{arith}
-use Rattle.frame.proofs.FrameLaws.{copy-asks, count-asks, frame-any, frame-few, frame-is, frame-narrow, names-sought, values-sought}
+use Rattle.frame.proofs.FrameLaws.{copy-asks, count-asks, frame-any, frame-is, frame-narrow, names-sought, values-sought}
 use borrow.Author.Needs.{needs}
 use Rattle.frame.proofs.frame_of.Statement.{statement}
 use Rattle.frame.proofs.frame_of.Tie as tie
 
 words-for-requires : tie.Need-words-for-requires
-words-for-requires c κs = frame-narrow (c .before .before .before .before .before .before .before .pre)
-
-link-room-requires : tie.Need-link-room-requires
-link-room-requires c κs = search needs
+words-for-requires c κs =
+    let b7 = c .before .before .before .before .before .before .before in
+    frame-narrow (b7 .pre)
 
 sub-n : tie.Need-sub-n
-sub-n c = frame-any (c .before .before .before .before .before .before .before .before .before .pre)
+sub-n c =
+    let b8 = c .before .before .before .before .before .before .before .before in
+    frame-any (b8 .pre)
 
 copy-places-requires : tie.Need-copy-places-requires
-copy-places-requires c κs = copy-asks (c .before .before .before .before .before .before .before .before .before .before .pre)
+copy-places-requires c κs =
+    let b9 = c .before .before .before .before .before .before .before .before .before in
+    copy-asks (b9 .pre)
 
 kind-places-requires : tie.Need-kind-places-requires
-kind-places-requires c κs = (omega arith, names-sought (c .before .before .before .before .before .before .before .before .before .before .before .before .before .before .pre))
+kind-places-requires c κs =
+    let b13 = c .before .before .before .before .before .before .before .before .before .before .before .before .before in
+    (omega arith, names-sought (b13 .pre))
 
 kind-places-requires-2 : tie.Need-kind-places-requires-2
-kind-places-requires-2 c κs = (omega arith, values-sought (c .before .before .before .before .before .before .before .before .before .before .before .before .before .before .before .before .before .before .pre))
+kind-places-requires-2 c κs =
+    let b17 = c .before .before .before .before .before .before .before .before .before .before .before .before .before .before .before .before .before in
+    (omega arith, values-sought (b17 .pre))
 
 count-namings-requires : tie.Need-count-namings-requires
 count-namings-requires c κs =
     let b2 = c .before .before in
     let b6 = b2 .before .before .before .before in
-    count-asks (b6 .before .before .before .before .before .before .before .before .before .before .before .before .before .before .before .pre) (b6 .kind-places .ensures) (b2 .kind-places2 .ensures)
+    let b20 = b6 .before .before .before .before .before .before .before .before .before .before .before .before .before .before in
+    count-asks (b20 .pre) (b6 .kind-places .ensures) (b2 .kind-places2 .ensures)
 
-mul-t14 : tie.Need-mul-t14
-mul-t14 c = let f = frame-few (c .before .before .before .before .before .before .before .before .before .before .before .before .before .before .before .before .before .before .before .before .before .before .pre) in omega arith
+mul-t13 : tie.Need-mul-t13
+mul-t13 c = search needs
 
-shared-slice-read-t23 : tie.Need-shared-slice-read-t23
-shared-slice-read-t23 c = let f = frame-any (c .before .before .before .before .before .before .before .before .before .before .before .before .before .before .before .before .before .before .before .before .before .before .before .pre) in omega arith
+shared-slice-read-t22 : tie.Need-shared-slice-read-t22
+shared-slice-read-t22 c =
+    let b22 = c .before .before .before .before .before .before .before .before .before .before .before .before .before .before .before .before .before .before .before .before .before .before in
+    (let f = frame-any (b22 .pre) in omega arith)
 
 same-length : tie.Need-same-length
 same-length c = search needs
@@ -51,22 +61,21 @@ returns c =
     let b8 = b4 .before .before .before .before in
     let b12 = b8 .before .before .before .before in
     let b14 = b12 .before .before in
-    let b15 = b14 .before in
-    frame-is (b15 .before .before .before .before .before .before .before .before .pre) (b8 .kind-places .ensures) (b4 .kind-places2 .ensures) _ (b15 .words-for .ensures) (b14 .link-room .ensures) (b12 .copy-places .ensures) (b1 .count-namings .ensures)
+    let b22 = b14 .before .before .before .before .before .before .before .before in
+    frame-is (b22 .pre) (b8 .kind-places .ensures) (b4 .kind-places2 .ensures) _ (b14 .words-for .ensures) (b12 .copy-places .ensures) (b1 .count-namings .ensures)
 
 pub frame-of-spec : {M : Type 1} → statement M
 frame-of-spec =
     tie.close
     (tie.spec
     words-for-requires
-    link-room-requires
     sub-n
     copy-places-requires
     kind-places-requires
     kind-places-requires-2
     count-namings-requires
-    mul-t14
-    shared-slice-read-t23
+    mul-t13
+    shared-slice-read-t22
     same-length
     same-length-2
     same-length-3

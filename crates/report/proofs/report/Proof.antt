@@ -22,14 +22,14 @@ returns c =
     let b7 = b4 .before .before .before in
     c .refused .ensures ∙ ap (λ n. length (linesOf (now (b7 .args .sheet)) n)) (b4 .ending .ensures .0)
 
-fitted-report-requires : tie.Need-fitted-report-requires
-fitted-report-requires c κs = search needs
+accepted-requires : tie.Need-accepted-requires
+accepted-requires c κs = search needs
 
 returns-2 : tie.Need-returns-2
 returns-2 c =
     let b4 = c .before .before .before .before in
     let b7 = b4 .before .before .before in
-    c .fitted-report .ensures ∙ ap (λ n. length (linesOf (now (b7 .args .sheet)) n)) (b4 .ending .ensures .0)
+    c .accepted .ensures ∙ ap (λ n. length (linesOf (now (b7 .args .sheet)) n)) (b4 .ending .ensures .0)
 
 pub report-spec : {M : Type 1} → statement M
 report-spec =
@@ -39,5 +39,5 @@ report-spec =
     set-up-requires
     refused-requires
     returns
-    fitted-report-requires
+    accepted-requires
     returns-2)

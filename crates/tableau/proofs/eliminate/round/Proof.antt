@@ -1,54 +1,72 @@
--- `round` meets its contract: after i turns dst holds those of src that lack nothing the first i members ask for. Assumes nothing.
-use mathlib.Core.Path.{_∙_}
+-- `round` meets its contract: after j turns dst holds those of src that keep their place as far as the first j needs go. Assumes nothing.
+use mathlib.Core.Path.{refl, _∙_}
 use Prim.Native.Nat.{_-_}
 use native.Mathlib.Omega.{arith}
+use borrow.Author.Needs.{needs}
 use lib.ListN.{length}
-use Rattle.tableau.proofs.Rounding.{Rounded, round-end, round-on, round-start, round-sub}
+use Rattle.tableau.proofs.Rounding.{Rounded, round-end, round-on, round-start}
 use Rattle.tableau.proofs.eliminate.round.Statement.{statement}
 use Rattle.tableau.proofs.eliminate.round.Tie as tie
 
 abbrev Inv-loop : tie.InvT-loop
-Inv-loop ms ln w tw lw src dst₀ u₀ todo₀ v₀ i₀ dst u todo v i = Rounded ms ln w src dst₀ u₀ todo₀ v₀ dst u todo v i
+Inv-loop ns tw cw w src dst₀ u₀ todo₀ v₀ rest₀ j₀ dst u todo v rest j = Rounded w tw cw ns src dst₀ u₀ todo₀ v₀ rest₀ dst u todo v rest j
 
 abbrev μ-loop : tie.MeasureT-loop
-μ-loop ms ln w tw lw src dst₀ u₀ todo₀ v₀ i₀ dst u todo v i = length ms - i
+μ-loop ns tw cw w src dst₀ u₀ todo₀ v₀ rest₀ j₀ dst u todo v rest j = length ns - j
 
+-- src/eliminate.rt:191:5
 copy-requires : tie.Need-copy-requires Inv-loop μ-loop
 copy-requires c κs =
     let b10 = c .before .before .before .before .before .before .before .before .before .before in
     (b10 .pre .1 .1, b10 .pre .1 .0)
 
+-- src/eliminate.rt:193:5
 loop-holds : tie.Need-loop-holds Inv-loop μ-loop
 loop-holds c =
     let b2 = c .before .before in
     let b13 = b2 .before .before .before .before .before .before .before .before .before .before .before in
-    round-start (b13 .args .dst .now) (b13 .pre .1 .1) (b2 .copy .kept .0) (b2 .copy .ensures)
+    round-start (b13 .args .dst .now) (b13 .pre .1 .1) (b2 .copy .ensures)
 
-eliminate-member-requires : tie.Need-eliminate-member-requires Inv-loop μ-loop
-eliminate-member-requires c κs =
-    let b4 = c .before .before .before .before in
-    let b5 = b4 .before in
-    let b8 = b5 .before .before .before in
-    let b19 = b8 .before .before .before .before .before .before .before .before .before .before .before in
-    (b19 .pre .0, ((b4 .loop-test .taken, b19 .pre .1 .0, (let l = b5 .loop .inv .long in let h = b19 .pre .1 .1 in let k = b8 .copy .kept .0 in omega arith), (let l = b5 .loop .inv .long-u in let h = b19 .pre .1 .2 in omega arith), (let l = b5 .loop .inv .long-todo in let h = b19 .pre .1 .3 in omega arith), (let l = b5 .loop .inv .long-v in let h = b19 .pre .1 .4 in omega arith)), round-sub (b5 .loop .inv)))
+-- src/eliminate.rt:194:39
+mul-eliminate-need : tie.Need-mul-eliminate-need Inv-loop μ-loop
+mul-eliminate-need c = search needs
 
-add-i : tie.Need-add-i Inv-loop μ-loop
-add-i c =
-    let b13 = c .before .before .before .before .before .before .before .before .before .before .before .before .before in
-    omega (arith, b13 .loop-test .taken)
+-- src/eliminate.rt:194:39
+shared-slice-read-eliminate-need : tie.Need-shared-slice-read-eliminate-need Inv-loop μ-loop
+shared-slice-read-eliminate-need c = search needs
 
+-- src/eliminate.rt:194:9
+eliminate-need-requires : tie.Need-eliminate-need-requires Inv-loop μ-loop
+eliminate-need-requires c κs =
+    let b6 = c .before .before .before .before .before .before in
+    let b7 = b6 .before in
+    let b10 = b7 .before .before .before in
+    let b21 = b10 .before .before .before .before .before .before .before .before .before .before .before in
+    (((_, b6 .loop-test .taken, refl), b21 .pre .0), (b21 .pre .1 .0, (let l = b7 .loop .inv .long in let h = b21 .pre .1 .1 in let k = b10 .copy .kept .0 in omega arith), (let l = b7 .loop .inv .long-u in let h = b21 .pre .1 .2 in omega arith), (let l = b7 .loop .inv .long-todo in let h = b21 .pre .1 .3 in omega arith), (let l = b7 .loop .inv .long-v in let h = b21 .pre .1 .4 in omega arith), (let l = b7 .loop .inv .long-rest in let h = b21 .pre .1 .5 in omega arith)))
+
+-- src/eliminate.rt:195:9
+add-j : tie.Need-add-j Inv-loop μ-loop
+add-j c =
+    let b17 = c .before .before .before .before .before .before .before .before .before .before .before .before .before .before .before .before .before in
+    omega (arith, b17 .loop-test .taken)
+
+-- src/eliminate.rt:193:5
 loop-less : tie.Need-loop-less Inv-loop μ-loop
 loop-less c =
-    let b13 = c .before .before .before .before .before .before .before .before .before .before .before .before .before in
-    omega (arith, b13 .loop-test .taken)
+    let b17 = c .before .before .before .before .before .before .before .before .before .before .before .before .before .before .before .before .before in
+    omega (arith, b17 .loop-test .taken)
 
+-- src/eliminate.rt:193:5
 loop-again : tie.Need-loop-again Inv-loop μ-loop
 loop-again c =
-    let b8 = c .before .before .before .before .before .before .before .before in
-    let b13 = b8 .before .before .before .before .before in
-    let b14 = b13 .before in
-    round-on (b14 .loop .inv) _ _ _ _ (b13 .loop-test .taken) (b8 .eliminate-member .kept .1 .1 .1 .1 .1 .1 .1 .0) (b8 .eliminate-member .kept .1 .1 .1 .1 .1 .1 .1 .1 .0) (b8 .eliminate-member .kept .1 .1 .1 .1 .1 .1 .1 .1 .1 .0) (b8 .eliminate-member .kept .1 .1 .1 .1 .1 .1 .1 .1 .1 .1 .0) (b8 .eliminate-member .ensures)
+    let b10 = c .before .before .before .before .before .before .before .before .before .before in
+    let b17 = b10 .before .before .before .before .before .before .before in
+    let b18 = b17 .before in
+    let b21 = b18 .before .before .before in
+    let b32 = b21 .before .before .before .before .before .before .before .before .before .before .before in
+    round-on (b18 .loop .inv) (let k = b21 .copy .kept .0 in let h = b32 .pre .1 .1 in omega arith) _ _ _ _ _ (b17 .loop-test .taken) (b10 .eliminate-need .kept .1 .1 .1 .1 .1 .1 .0) (b10 .eliminate-need .kept .1 .1 .1 .1 .1 .1 .1 .0) (b10 .eliminate-need .kept .1 .1 .1 .1 .1 .1 .1 .1 .0) (b10 .eliminate-need .kept .1 .1 .1 .1 .1 .1 .1 .1 .1 .0) (b10 .eliminate-need .kept .1 .1 .1 .1 .1 .1 .1 .1 .1 .1 .0) (b10 .eliminate-need .ensures)
 
+-- src/eliminate.rt:197:5
 equal-requires : tie.Need-equal-requires Inv-loop μ-loop
 equal-requires c κs =
     let b2 = c .before .before in
@@ -56,34 +74,45 @@ equal-requires c κs =
     let b16 = b5 .before .before .before .before .before .before .before .before .before .before .before in
     (b16 .pre .1 .0, (let l = b2 .loop .inv .long in let h = b16 .pre .1 .1 in let k = b5 .copy .kept .0 in omega arith))
 
+-- src/eliminate.rt:174:1
 same-length : tie.Need-same-length Inv-loop μ-loop
 same-length c =
     let b3 = c .before .before .before in
     let b6 = b3 .before .before .before in
     b3 .loop .inv .long ∙ b6 .copy .kept .0
 
+-- src/eliminate.rt:174:1
 same-length-2 : tie.Need-same-length-2 Inv-loop μ-loop
 same-length-2 c =
     let b3 = c .before .before .before in
     b3 .loop .inv .long-u
 
+-- src/eliminate.rt:174:1
 same-length-3 : tie.Need-same-length-3 Inv-loop μ-loop
 same-length-3 c =
     let b3 = c .before .before .before in
     b3 .loop .inv .long-todo
 
+-- src/eliminate.rt:174:1
 same-length-4 : tie.Need-same-length-4 Inv-loop μ-loop
 same-length-4 c =
     let b3 = c .before .before .before in
     b3 .loop .inv .long-v
 
+-- src/eliminate.rt:174:1
+same-length-5 : tie.Need-same-length-5 Inv-loop μ-loop
+same-length-5 c =
+    let b3 = c .before .before .before in
+    b3 .loop .inv .long-rest
+
+-- src/eliminate.rt:174:1
 returns : tie.Need-returns Inv-loop μ-loop
 returns c =
     let b2 = c .before .before in
     let b3 = b2 .before in
     let b6 = b3 .before .before .before in
     let b17 = b6 .before .before .before .before .before .before .before .before .before .before .before in
-    (round-end (b17 .args .dst .now) (b3 .loop .inv) (b2 .loop-test .left) (b17 .pre .1 .1) (b6 .copy .ensures), c .equal .ensures)
+    ((λ ms ln r. round-end r (b17 .args .src .now) (b17 .args .dst .now) (b3 .loop .inv) (b2 .loop-test .left) (b17 .pre .1 .1) (b6 .copy .ensures)), c .equal .ensures)
 
 pub round-spec : {M : Type 1} → statement M
 round-spec =
@@ -93,8 +122,10 @@ round-spec =
     μ-loop
     copy-requires
     loop-holds
-    eliminate-member-requires
-    add-i
+    mul-eliminate-need
+    shared-slice-read-eliminate-need
+    eliminate-need-requires
+    add-j
     loop-less
     loop-again
     equal-requires
@@ -102,4 +133,5 @@ round-spec =
     same-length-2
     same-length-3
     same-length-4
+    same-length-5
     returns)

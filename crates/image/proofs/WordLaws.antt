@@ -1,0 +1,78 @@
+-- Words of entries, and the numbers of a word that is shifted round by half. Assumes nothing.
+use mathlib.Core.Path.{_≡_, sym, ap, ap₂, _∙_}
+use mathlib.Core.Bool.{Bool, not, _&&_, _||_, or-false}
+use mathlib.Core.List.{List}
+use mathlib.Core.Logic.{⊎-elim}
+use Prim.Native.Nat.{ℕ, _+_, _-_, _*_, _/_, _%_, _^_, _≤_, _<_}
+use native.Mathlib.Omega.{arith}
+use lib.Bits.{bitAnd, bitOr}
+use lib.Dec.{eqb}
+use lib.Pow.{shl-shr, shr-shr}
+use Rattle.truth.proofs.BlockLaws.{word-as, word-not}
+use Rattle.truth.proofs.Sifting.{Sifting}
+use Rattle.wordset.proofs.AnswersLaws.{and-answers}
+use Rattle.wordset.proofs.BelowLaws.{any-ext, lt-or-le}
+use Rattle.wordset.proofs.BitLaws.{bit-minus, bit-none, bit-or, digit-low}
+use Rattle.wordset.specs.Answers.{Answers}
+use Rattle.wordset.specs.Below.{anyBelow}
+use Rattle.wordset.specs.Word.{bit}
+use Rattle.conditions.specs.Entries.{entry, inSome}
+use Rattle.conditions.proofs.EntryLaws.{bit-past}
+use Rattle.image.specs.Covering.{RefusedBy, notAll}
+
+-- the loop over the entries that have a type: nothing is left
+pub refused-end : (cw : List ℕ) (a t : ℕ) {rest acc : ℕ} → Sifting (λ c. entry cw c t) a rest acc → a < 2 ^ 64 → rest ≡ 0 → RefusedBy cw a t acc
+refused-end cw a t {rest} {acc} s h e c =
+    ⊎-elim
+    (λ l. sym (or-false (bit acc c)) ∙ sym (ap (λ z. bit acc c || (z && entry cw c t)) (ap (λ (n : ℕ). bit n c) e ∙ bit-none c)) ∙ s .is c l)
+    (λ l. bit-past 64 acc (s .small) c l ∙ sym (ap (λ z. z && entry cw c t) (bit-past 64 a h c l))) (lt-or-le c 64)
+
+-- ---- a word shifted round by half
+
+bit-shr : (x j c : ℕ) → bit (x / 2 ^ j) c ≡ bit x (j + c)
+unfolding bit
+bit-shr x j c = ap (λ (n : ℕ). eqb (n % 2) 1) (shr-shr x j c)
+
+pub bit-half : (r : ℕ) → r < 2 ^ 64 → (c : ℕ) → c < 64 → bit (bitOr (r / 2 ^ 32) ((r * 2 ^ 32) % 2 ^ 64)) c ≡ bit r ((c + 32) % 64)
+unfolding bit
+bit-half r h c l = bit-or (r / 2 ^ 32) ((r * 2 ^ 32) % 2 ^ 64) c ∙ ⊎-elim low up (lt-or-le c 32)
+  where
+    u : ℕ
+    u = (r * 2 ^ 32) % 2 ^ 64
+
+    shifted : u ≡ (r % 2 ^ 32) * 2 ^ 32
+    shifted = omega arith
+
+    low : c < 32 → (bit (r / 2 ^ 32) c || bit u c) ≡ bit r ((c + 32) % 64)
+    low g =
+        let e : 32 + c ≡ (c + 32) % 64 = omega arith in
+        let s : u ≡ (r % 2 ^ 32) * 2 ^ 32 + 0 = omega (arith, shifted) in
+        ap₂ _||_ (bit-shr r 32 c ∙ ap (bit r) e) (ap (λ (n : ℕ). bit n c) s ∙ ap (λ (n : ℕ). eqb n 1) (digit-low (r % 2 ^ 32) 0 c 32 g) ∙ bit-none c)
+        ∙ or-false (bit r ((c + 32) % 64))
+
+    up : 32 ≤ c → (bit (r / 2 ^ 32) c || bit u c) ≡ bit r ((c + 32) % 64)
+    up g =
+        let j : ℕ = c - 32 in
+        let e : c ≡ 32 + (c - 32) = omega arith in
+        let f : (c + 32) % 64 ≡ c - 32 = omega arith in
+        let d : (r / 2 ^ 32) * 2 ^ 32 + r % 2 ^ 32 ≡ r = omega arith in
+        ap₂ _||_ (bit-past 32 (r / 2 ^ 32) (omega arith) c g)
+        (ap₂ bit shifted e ∙ sym (bit-shr ((r % 2 ^ 32) * 2 ^ 32) 32 j) ∙ ap (λ (n : ℕ). bit n j) (shl-shr (r % 2 ^ 32) 32)
+        ∙ sym (ap (λ (n : ℕ). eqb n 1) (digit-low (r / 2 ^ 32) (r % 2 ^ 32) j 32 (omega arith))) ∙ ap₂ bit d (sym f))
+
+-- ---- types that refuse less
+
+pub fewer-none : (Q : ℕ → Bool) {k x : ℕ} → x ≡ 0 → (P : ℕ → Bool) → Answers P k x → Answers (λ u. P u && Q u) k 0
+fewer-none Q {k} e P a = record {
+  small = omega arith;
+  each = λ b h. ap (λ z. z && Q (k * 64 + b)) (a .each b h ∙ ap (λ (y : ℕ). bit y b) e ∙ bit-none b) ∙ sym (bit-none b);
+}
+
+pub fewer-some : (cw : List ℕ) (a r : ℕ) {k x y z : ℕ} → r < 2 ^ 64 → Answers (notAll cw r) k y → Answers (inSome cw (bitAnd a ((2 ^ 64 - 1) - r))) k z
+    → (P : ℕ → Bool) → Answers P k x
+    → Answers (λ u. P u && (notAll cw r u && not (anyBelow 64 (λ c. (bit a c && not (bit r c)) && entry cw c u)))) k (bitAnd x (bitAnd y ((2 ^ 64 - 1) - z)))
+unfolding inSome
+fewer-some cw a r h p q P o =
+    and-answers o
+    (and-answers p (word-as (λ u. ap not (any-ext (λ c. bit (bitAnd a ((2 ^ 64 - 1) - r)) c && entry cw c u) (λ c. (bit a c && not (bit r c)) && entry cw c u) 64
+    (λ c l. ap (λ z. z && entry cw c u) (bit-minus 64 c a r h l)))) (word-not q)))

@@ -1,0 +1,28 @@
+-- How the types that are linked to a set are found: the sets of entries in which its types refuse. Assumes nothing.
+use mathlib.Core.Path.{_≡_}
+use mathlib.Core.Bool.{Bool, true, not, _&&_}
+use mathlib.Core.List.{List}
+use Prim.Native.Nat.{ℕ, _*_, _<_}
+use Rattle.wordset.specs.Below.{anyBelow}
+use Rattle.wordset.specs.Word.{bit}
+use Rattle.wordset.specs.Words.{member}
+use Rattle.conditions.specs.Entries.{entry, partner}
+
+-- r is what q refuses: of the entries a, those that have it
+abbrev pub RefusedBy : List ℕ → ℕ → ℕ → ℕ → Type 0
+RefusedBy cw a q r = (c : ℕ) → bit r c ≡ (bit a c && entry cw c q)
+
+-- t is not in all of the entries r
+unfoldable pub notAll : List ℕ → ℕ → ℕ → Bool
+notAll cw r t = anyBelow 64 (λ c. bit r c && not (entry cw c t))
+
+-- t demands one of the conditions that are refused in the entries r
+unfoldable pub demands : List ℕ → ℕ → ℕ → Bool
+demands cw r t = anyBelow 64 (λ c. bit r c && entry cw (partner c) t)
+
+-- r is what some member of the set refuses
+pub record Refused (w : ℕ) (cw : List ℕ) (a : ℕ) (set : List ℕ) (r : ℕ) : Type 0 where
+  pub who : ℕ
+  pub below : who < w * 64
+  pub inside : member set who ≡ true
+  pub is : RefusedBy cw a who r

@@ -1,4 +1,0 @@
-pub mod Narrowing
-pub mod AskedModes
-pub mod RowPlaces
-pub mod LinkWords

@@ -1,0 +1,52 @@
+-- `ex_fields` meets its contract: the set has the fields of the first i members. Assumes nothing.
+use Prim.Native.Nat.{_-_}
+use lib.ListN.{length}
+use Rattle.needs.proofs.FieldLaws.{FieldsSoFar, fields-end, fields-on, fields-start}
+use borrow.Author.Needs.{needs}
+use Rattle.needs.proofs.ex_fields.Statement.{statement}
+use Rattle.needs.proofs.ex_fields.Tie as tie
+
+abbrev Inv-loop : tie.InvT-loop
+Inv-loop ms acc₀ i₀ acc i = FieldsSoFar ms i acc
+
+abbrev μ-loop : tie.MeasureT-loop
+μ-loop ms acc₀ i₀ acc i = length ms - i
+
+loop-holds : tie.Need-loop-holds Inv-loop μ-loop
+loop-holds c = fields-start
+
+mul-field-of : tie.Need-mul-field-of Inv-loop μ-loop
+mul-field-of c = search needs
+
+shared-slice-read-field-of : tie.Need-shared-slice-read-field-of Inv-loop μ-loop
+shared-slice-read-field-of c = search needs
+
+field-of-requires : tie.Need-field-of-requires Inv-loop μ-loop
+field-of-requires c κs = search needs
+
+add-i : tie.Need-add-i Inv-loop μ-loop
+add-i c = search needs
+
+loop-less : tie.Need-loop-less Inv-loop μ-loop
+loop-less c = search needs
+
+loop-again : tie.Need-loop-again Inv-loop μ-loop
+loop-again c = fields-on _ (c .before .before .before .loop .inv) (c .before .before .loop-test .taken) (c .field-of .ensures)
+
+returns : tie.Need-returns Inv-loop μ-loop
+returns c = fields-end (c .before .loop .inv) (c .loop-test .left)
+
+pub ex-fields-spec : {M : Type 1} → statement M
+ex-fields-spec =
+    tie.close
+    (tie.spec
+    Inv-loop
+    μ-loop
+    loop-holds
+    mul-field-of
+    shared-slice-read-field-of
+    field-of-requires
+    add-i
+    loop-less
+    loop-again
+    returns)

@@ -1,0 +1,4 @@
+pub mod NeedWords
+pub mod Needs
+pub mod FieldBlocks
+pub mod Listing
