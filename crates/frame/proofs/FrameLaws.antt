@@ -12,7 +12,7 @@ use Rattle.ctl.specs.Positive.{positive}
 use Rattle.ctl.specs.Tableau.{Tableau, namePlaces, namings, valuePlaces}
 use Rattle.sheet.specs.Refusal.{readRefusal}
 use Rattle.sheet.specs.Reading.{formulas, goalOf, globalsOf}
-use Rattle.truth.specs.Tables.{Leans, Table, form}
+use Rattle.truth.specs.Tables.{form}
 use Rattle.reader.specs.declared.Reading.{Reading}
 use Rattle.reader.specs.Reader.{Says}
 use Rattle.prepare.specs.Prepared.{kindsOf, leanOf, tableOf, tableauIn}
@@ -178,9 +178,6 @@ module _ {ms ln kinds places s : List ℕ} {r : Reading} (g : Given ms ln kinds 
   given-many : length (take (r .formulas) (r .places)) ≡ r .formulas
   given-many = ap length (sym (g .places-are)) ∙ g .many
 
-  given-table : Table ms
-  given-table = given-by (λ m l k p. Table m) (table s r (g .says))
-
   given-count : length ms ≡ r .count
   given-count = ap length (g .table-is) ∙ table-length s r (g .says)
 
@@ -189,9 +186,6 @@ module _ {ms ln kinds places s : List ℕ} {r : Reading} (g : Given ms ln kinds 
 
   given-any : 0 < length places
   given-any = let a = formulas-any s r (g .says) (g .read) in let b = g .many in omega arith
-
-  given-leans : r .width ≤ 60 → Leans ms ln
-  given-leans h = given-by (λ m l k p. Leans m l) (leans s r (g .says) h)
 
   given-before : (j : ℕ) → j < length places - 1 → getD places j 0 < length ms
   given-before = given-by (λ m l k p. (j : ℕ) → j < length p - 1 → getD p j 0 < length m) (before-inside s r (g .says) (g .read) given-many)

@@ -1,20 +1,18 @@
 -- The loop that takes one type after another out of a set, with all that refuse as much, and drops what is linked to it. Assumes nothing.
 use mathlib.Core.Path.{_≡_, refl, sym, ap, ap₂, _∙_}
-use mathlib.Core.Bool.{Bool, true, false, not, _&&_, _||_, Bool·beq, and-true, and-false, true≢false, false≢true}
+use mathlib.Core.Bool.{Bool, true, false, not, _&&_, Bool·beq, and-true, and-false, false≢true}
 use mathlib.Core.List.{List}
-use Prim.Native.Nat.{ℕ, _*_, _^_, _≤_, _<_}
+use Prim.Native.Nat.{ℕ, _+_, _*_, _/_, _%_, _<_}
 use native.Mathlib.Omega.{arith}
-use lib.ListN.{length, getD}
+use lib.ListN.{length}
 use Rattle.ctl.proofs.BoolLaws.{and-both, and-make}
-use Rattle.wordset.proofs.BelowLaws.{all-false, any-ext, any-false, any-intro, any-none, count-ext, least-below, least-holds, least-lt}
+use Rattle.wordset.proofs.BelowLaws.{all-false, any-ext, any-false, any-intro, any-none, count-ext, least-below, least-holds, least-le, least-lt}
 use Rattle.wordset.proofs.CompareLaws.{both-ways, count-fewer}
-use Rattle.wordset.proofs.PackLaws.{packed-ext, packed-self}
 use Rattle.wordset.specs.Below.{anyBelow, countBelow, least}
 use Rattle.wordset.specs.Word.{bit}
-use Rattle.wordset.specs.Words.{member, minus, packed}
-use Rattle.truth.specs.Blocks.{has}
-use Rattle.conditions.specs.Entries.{entry, inSome, linkedBy, linkedTo, partner, side}
-use Rattle.image.specs.Covering.{Refused, RefusedBy, demands, notAll}
+use Rattle.wordset.specs.Words.{member}
+use Rattle.conditions.specs.Entries.{entry, inSome, linkedBy, linkedTo, partner}
+use Rattle.image.specs.Covering.{Refused, RefusedBy, demands, notAll, passing}
 
 -- some number passes
 some : (n : ℕ) (P : ℕ → Bool) → anyBelow n P ≡ true → (j : ℕ) × (j < n) × (P j ≡ true)
@@ -46,7 +44,7 @@ partners-demand cw r s t f =
 -- ---- a turn
 
 module _ (w : ℕ) (cw : List ℕ) (a : ℕ) where
-  linked-ext : (Y Z : ℕ → Bool) (t : ℕ) → ((u : ℕ) → u < w * 64 → Y u ≡ Z u) → linkedTo w cw a Y t ≡ linkedTo w cw a Z t
+  pub linked-ext : (Y Z : ℕ → Bool) (t : ℕ) → ((u : ℕ) → u < w * 64 → Y u ≡ Z u) → linkedTo w cw a Y t ≡ linkedTo w cw a Z t
   unfolding linkedTo
   linked-ext Y Z t e = any-ext (λ u. Y u && linkedBy cw a t u) (λ u. Z u && linkedBy cw a t u) (w * 64) (λ u l. ap (λ z. z && linkedBy cw a t u) (e u l))
 
@@ -114,56 +112,65 @@ module _ (w : ℕ) (cw : List ℕ) (a : ℕ) where
           go true true false false f g k = refl
           go true false x y f g k = sym (ap not (f refl))
 
--- ---- the loop: dst lacks those of dst₀ that are linked to a type of rest₀ that is not in `rest`; with those that are still to be dropped, all that are linked to a type of rest₀
+-- ---- the loop: dst lacks those of dst₀ that are linked to a type of rest₀ that is not in `rest`; with those that are still to be dropped, all that are linked to a type of rest₀. A type of `rest` refuses r
 
-pub record Draining (w : ℕ) (cw : List ℕ) (a : ℕ) (dst₀ rest₀ dst rest : List ℕ) (q : ℕ) : Type 0 where
+module _ (w : ℕ) (set : List ℕ) {q : ℕ} (e : q ≡ least (w * 64) (member set)) where
+  pub first-lt : (q ≡ w * 64 → ⊥) → q < w * 64
+  first-lt n = let l = least-le (w * 64) (member set) in omega (arith, n)
+
+  pub first-some : anyBelow (w * 64) (member set) ≡ true → q < w * 64
+  first-some a = let l = least-lt (w * 64) (member set) a in omega arith
+
+-- the least member of a set refuses r
+pub first-own : {w : ℕ} {cw : List ℕ} {a q r : ℕ} {set : List ℕ} → q ≡ least (w * 64) (member set) → q < w * 64 → RefusedBy cw a (q / 64 * 64 + q % 64) r → Refused w cw a set r
+first-own {w} {cw} {a} {q} {r} {set} e h f =
+    let s : q / 64 * 64 + q % 64 ≡ q = omega arith in
+    record { who = q / 64 * 64 + q % 64; below = omega arith; inside = ap (member set) (s ∙ e) ∙ least-holds (w * 64) (member set) (omega arith); is = f }
+
+-- there is none
+pub drain-none : (w : ℕ) (cw : List ℕ) (a : ℕ) {q : ℕ} (dst rest : List ℕ) → q ≡ least (w * 64) (member rest) → q ≡ w * 64 → (t : ℕ) → t < w * 64 → member dst t ≡ (member dst t && not (linkedTo w cw a (member rest) t))
+drain-none w cw a dst rest e h t l =
+    sym (and-true (member dst t)) ∙ ap (λ x. member dst t && not x) (sym (linked-none w cw a (member rest) t (any-none (member rest) (w * 64) (λ u k. least-below (w * 64) (member rest) u (omega arith)))))
+
+pub record Draining (w : ℕ) (cw : List ℕ) (a : ℕ) (dst₀ rest₀ dst rest : List ℕ) (r : ℕ) : Type 0 where
   pub long : length dst ≡ length dst₀
   pub long-rest : length rest ≡ length rest₀
-  pub next : q ≡ least (w * 64) (member rest)
+  pub own : Refused w cw a rest r
   pub is : (t : ℕ) → t < w * 64 → (member dst t && not (linkedTo w cw a (member rest) t)) ≡ (member dst₀ t && not (linkedTo w cw a (member rest₀) t))
 
 module _ {w : ℕ} {cw : List ℕ} {a : ℕ} {dst₀ rest₀ : List ℕ} where
-  pub drain-start : {q : ℕ} → q ≡ least (w * 64) (member rest₀) → Draining w cw a dst₀ rest₀ dst₀ rest₀ q
-  drain-start n = record { long = refl; long-rest = refl; next = n; is = λ t l. refl }
+  pub drain-start : {r : ℕ} → Refused w cw a rest₀ r → Draining w cw a dst₀ rest₀ dst₀ rest₀ r
+  drain-start o = record { long = refl; long-rest = refl; own = o; is = λ t l. refl }
 
-  module _ {dst rest : List ℕ} {q : ℕ} (s : Draining w cw a dst₀ rest₀ dst rest q) where
-    -- q is a member
-    pub drain-own : q < w * 64 → {r : ℕ} → RefusedBy cw a q r → Refused w cw a rest r
-    drain-own h e = let n = s .next in record { who = q; below = h; inside = ap (member rest) n ∙ least-holds (w * 64) (member rest) (omega arith); is = e }
+  -- a turn with r, whose partners are p
+  module _ {dst rest : List ℕ} {r : ℕ} (s : Draining w cw a dst₀ rest₀ dst rest r) (p : ℕ) (f : (c : ℕ) → c < 64 → bit p c ≡ bit r (partner c)) (dst′ : List ℕ)
+      (fd : (t : ℕ) → t < w * 64 → member dst′ t ≡ (member dst t && passing cw p false t)) where
+    kept : (t : ℕ) → t < w * 64 → (member dst′ t && not (linkedTo w cw a (λ u. member rest u && notAll cw r u) t)) ≡ (member dst₀ t && not (linkedTo w cw a (member rest₀) t))
+    unfolding passing
+    kept t l =
+        ap (λ x. x && not (linkedTo w cw a (λ u. member rest u && notAll cw r u) t)) (fd t l ∙ ap (λ x. member dst t && x) (partners-demand cw r p t f))
+        ∙ turn w cw a (member rest) r (s .own .who) (s .own .is) t (s .own .below) (s .own .inside) (member dst t) ∙ s .is t l
 
-    pub drain-end : w * 64 ≤ q → (t : ℕ) → t < w * 64 → member dst t ≡ (member dst₀ t && not (linkedTo w cw a (member rest₀) t))
-    drain-end h t l =
-        let e = s .next in
-        sym (and-true (member dst t))
-        ∙ ap (λ x. member dst t && not x) (sym (linked-none w cw a (member rest) t (any-none (member rest) (w * 64) (λ u k. least-below (w * 64) (member rest) u (omega arith)))))
-        ∙ s .is t l
+    -- none is left to be dropped
+    pub drain-empty : anyBelow (w * 64) (member dst′) ≡ false → (t : ℕ) → t < w * 64 → member dst′ t ≡ (member dst₀ t && not (linkedTo w cw a (member rest₀) t))
+    drain-empty e t l = let z = any-false (member dst′) (w * 64) e t l in z ∙ sym (ap (λ x. x && not (linkedTo w cw a (λ u. member rest u && notAll cw r u) t)) z) ∙ kept t l
 
-    -- a turn with r, which a member refuses
-    module _ {r : ℕ} (o : Refused w cw a rest r) (p : ℕ) (f : (c : ℕ) → c < 64 → bit p c ≡ bit r (partner c)) (dst′ : List ℕ)
-        (fd : (t : ℕ) → t < w * 64 → member dst′ t ≡ (member dst t && inSome cw p t)) where
-      kept : (t : ℕ) → t < w * 64 → (member dst′ t && not (linkedTo w cw a (λ u. member rest u && notAll cw r u) t)) ≡ (member dst₀ t && not (linkedTo w cw a (member rest₀) t))
-      kept t l =
-          ap (λ x. x && not (linkedTo w cw a (λ u. member rest u && notAll cw r u) t)) (fd t l ∙ ap (λ x. member dst t && x) (partners-demand cw r p t f))
-          ∙ turn w cw a (member rest) r (o .who) (o .is) t (o .below) (o .inside) (member dst t) ∙ s .is t l
+    module _ (rest′ : List ℕ) (fr : (t : ℕ) → t < w * 64 → member rest′ t ≡ (member rest t && passing cw r true t)) where
+      now-is : (t : ℕ) → t < w * 64 → (member dst′ t && not (linkedTo w cw a (member rest′) t)) ≡ (member dst₀ t && not (linkedTo w cw a (member rest₀) t))
+      unfolding passing
+      now-is t l = ap (λ x. member dst′ t && not x) (linked-ext w cw a (member rest′) (λ u. member rest u && notAll cw r u) t fr) ∙ kept t l
 
-      -- none is left to be dropped
-      pub drain-empty : anyBelow (w * 64) (member dst′) ≡ false → (t : ℕ) → t < w * 64 → member dst′ t ≡ (member dst₀ t && not (linkedTo w cw a (member rest₀) t))
-      drain-empty e t l = let z = any-false (member dst′) (w * 64) e t l in z ∙ sym (ap (λ x. x && not (linkedTo w cw a (λ u. member rest u && notAll cw r u) t)) z) ∙ kept t l
+      -- none is left that others could be linked to
+      pub drain-rest : anyBelow (w * 64) (member rest′) ≡ false → (t : ℕ) → t < w * 64 → member dst′ t ≡ (member dst₀ t && not (linkedTo w cw a (member rest₀) t))
+      drain-rest e t l = sym (and-true (member dst′ t)) ∙ ap (λ x. member dst′ t && not x) (sym (linked-none w cw a (member rest′) t e)) ∙ now-is t l
 
-      module _ (rest′ : List ℕ) (fr : (t : ℕ) → t < w * 64 → member rest′ t ≡ (member rest t && notAll cw r t)) where
-        now-is : (t : ℕ) → t < w * 64 → (member dst′ t && not (linkedTo w cw a (member rest′) t)) ≡ (member dst₀ t && not (linkedTo w cw a (member rest₀) t))
-        now-is t l = ap (λ x. member dst′ t && not x) (linked-ext w cw a (member rest′) (λ u. member rest u && notAll cw r u) t fr) ∙ kept t l
-
-        -- none is left that others could be linked to
-        pub drain-rest : anyBelow (w * 64) (member rest′) ≡ false → (t : ℕ) → t < w * 64 → member dst′ t ≡ (member dst₀ t && not (linkedTo w cw a (member rest₀) t))
-        drain-rest e t l = sym (and-true (member dst′ t)) ∙ ap (λ x. member dst′ t && not x) (sym (linked-none w cw a (member rest′) t e)) ∙ now-is t l
-
-        pub drain-on : {q′ : ℕ} → length dst′ ≡ length dst → length rest′ ≡ length rest → q′ ≡ least (w * 64) (member rest′) → Draining w cw a dst₀ rest₀ dst′ rest′ q′
-        drain-on ld lr n = record { long = ld ∙ s .long; long-rest = lr ∙ s .long-rest; next = n; is = now-is }
+      pub drain-on : {r′ : ℕ} → length dst′ ≡ length dst → length rest′ ≡ length rest → Refused w cw a rest′ r′ → Draining w cw a dst₀ rest₀ dst′ rest′ r′
+      drain-on ld lr o = record { long = ld ∙ s .long; long-rest = lr ∙ s .long-rest; own = o; is = now-is }
 
 -- the member that refuses r leaves
-pub drain-less : {w : ℕ} {cw : List ℕ} {a : ℕ} {rest : List ℕ} {r : ℕ} → Refused w cw a rest r → (rest′ : List ℕ) → ((t : ℕ) → t < w * 64 → member rest′ t ≡ (member rest t && notAll cw r t))
+pub drain-less : {w : ℕ} {cw : List ℕ} {a : ℕ} {rest : List ℕ} {r : ℕ} → Refused w cw a rest r → (rest′ : List ℕ) → ((t : ℕ) → t < w * 64 → member rest′ t ≡ (member rest t && passing cw r true t))
     → countBelow (w * 64) (member rest′) < countBelow (w * 64) (member rest)
+unfolding passing
 drain-less {w} {cw} {a} {rest} {r} o rest′ f =
     let e = count-ext (member rest′) Q (w * 64) f in
     let l = count-fewer (member rest) Q (w * 64) (λ j h. and-both (member rest j) _ h .0)
@@ -172,70 +179,3 @@ drain-less {w} {cw} {a} {rest} {r} o rest′ f =
   where
     Q : ℕ → Bool
     Q u = member rest u && notAll cw r u
-
--- ---- what is left of a set whose members were picked for it
-
--- `rest` has the types that pass Z
-pub drained-of : (w : ℕ) (cw : List ℕ) (a : ℕ) (Z : ℕ → Bool) (rest dst dst′ : List ℕ) → ((t : ℕ) → t < w * 64 → member rest t ≡ Z t)
-    → ((t : ℕ) → t < w * 64 → member dst′ t ≡ (member dst t && not (linkedTo w cw a (member rest) t)))
-    → (t : ℕ) → t < w * 64 → member dst′ t ≡ (member dst t && not (linkedTo w cw a Z t))
-drained-of w cw a Z rest dst dst′ e f t l = f t l ∙ ap (λ x. member dst t && not x) (linked-ext w cw a (member rest) Z t e)
-
--- every type is linked to one of Z that refuses nothing
-free-linked : (w : ℕ) (cw : List ℕ) (a : ℕ) (Z R : ℕ → Bool) → ((u : ℕ) → u < w * 64 → R u ≡ inSome cw a u) → anyBelow (w * 64) (λ u. Z u && not (R u)) ≡ true → (t : ℕ) → linkedTo w cw a Z t ≡ true
-unfolding linkedTo linkedBy inSome
-free-linked w cw a Z R f e t =
-    let s = some (w * 64) (λ u. Z u && not (R u)) e in
-    let b = and-both (Z (s .0)) _ (s .2) in
-    let n : anyBelow 64 (λ c. bit a c && entry cw c (s .0)) ≡ false = sym (f (s .0) (s .1)) ∙ off _ (b .1) in
-    any-intro (λ u. Z u && linkedBy cw a t u) (w * 64) (s .0) (s .1)
-    (and-make (Z (s .0)) _ (b .0) (ap not (any-none (λ c. bit a c && (entry cw (partner c) t && entry cw c (s .0))) 64
-    (λ c l. none (bit a c) (entry cw (partner c) t) (entry cw c (s .0)) (any-false (λ c. bit a c && entry cw c (s .0)) 64 n c l)))))
-  where
-    none : (a d e : Bool) → (a && e) ≡ false → (a && (d && e)) ≡ false
-    none true true e k = k
-    none true false e k = refl
-    none false d e k = refl
-
--- ---- those of d that stay: they are not in block i, or linked along mode m to a type of u in block p
-
-abbrev pub stays : List ℕ → List ℕ → List ℕ → List ℕ → ℕ → ℕ → ℕ → ℕ → ℕ → Bool
-stays d u tw cw w i p m t = member d t && (not (has w tw i t) || linkedTo w cw (side w cw m) (λ c. member u c && has w tw p c) t)
-
-pub stays-as : (d u tw cw d′ : List ℕ) (w : ℕ) {i i′ p p′ m m′ : ℕ} → i ≡ i′ → p ≡ p′ → m ≡ m′ → d′ ≡ packed w (stays d u tw cw w i p m) d → d′ ≡ packed w (stays d u tw cw w i′ p′ m′) d
-stays-as d u tw cw d′ w {i} {i′} {p} {p′} {m} {m′} a b c e =
-    e ∙ ap (λ (n : ℕ). packed w (stays d u tw cw w n p m) d) a ∙ ap (λ (n : ℕ). packed w (stays d u tw cw w i′ n m) d) b ∙ ap (λ (n : ℕ). packed w (stays d u tw cw w i′ p′ n) d) c
-
-module _ (d u tw cw : List ℕ) (w i p m : ℕ) where
-  abbrev linked : ℕ → Bool
-  linked t = linkedTo w cw (side w cw m) (λ c. member u c && has w tw p c) t
-
-  -- v has the others
-  pub others-leave : (v₀ v d′ : List ℕ) → ((t : ℕ) → t < w * 64 → member v₀ t ≡ (member d t && has w tw i t)) → ((t : ℕ) → t < w * 64 → member v t ≡ (member v₀ t && not (linkedTo w cw (side w cw m) (λ c. member u c && has w tw p c) t)))
-      → d′ ≡ minus w d v → d′ ≡ packed w (stays d u tw cw w i p m) d
-  others-leave v₀ v d′ f g q =
-      q ∙ packed-ext (λ t. member d t && not (member v t)) (stays d u tw cw w i p m) d w
-      (λ t l. ap (λ z. member d t && not z) (g t l ∙ ap (λ z. z && not (linked t)) (f t l)) ∙ kept (member d t) (has w tw i t) (linked t))
-    where
-      kept : (d h m : Bool) → (d && not ((d && h) && not m)) ≡ (d && (not h || m))
-      kept true true true = refl
-      kept true true false = refl
-      kept true false m = refl
-      kept false h m = refl
-
-  module _ (small : (k : ℕ) → k < w → getD d k 0 < 2 ^ 64) where
-    all-stay : ((t : ℕ) → t < w * 64 → (member d t && has w tw i t) ≡ true → linked t ≡ true) → d ≡ packed w (stays d u tw cw w i p m) d
-    all-stay f = packed-self d w small ∙ packed-ext (member d) (stays d u tw cw w i p m) d w (λ t l. stay (member d t) (has w tw i t) (linked t) (f t l))
-      where
-        stay : (d h m : Bool) → ((d && h) ≡ true → m ≡ true) → d ≡ (d && (not h || m))
-        stay true true m k = sym (k refl)
-        stay true false m k = refl
-        stay false h m k = refl
-
-    -- none is in the block
-    pub none-in : anyBelow (w * 64) (λ t. member d t && has w tw i t) ≡ false → d ≡ packed w (stays d u tw cw w i p m) d
-    none-in e = all-stay (λ t l k. absurd (true≢false (sym k ∙ any-false (λ t. member d t && has w tw i t) (w * 64) e t l)))
-
-    -- one of those that they are to be linked to refuses nothing
-    pub one-free : (R : ℕ → Bool) → ((t : ℕ) → t < w * 64 → R t ≡ inSome cw (side w cw m) t) → anyBelow (w * 64) (λ t. (member u t && has w tw p t) && not (R t)) ≡ true → d ≡ packed w (stays d u tw cw w i p m) d
-    one-free R f e = all-stay (λ t l k. free-linked w cw (side w cw m) (λ c. member u c && has w tw p c) R f e t)

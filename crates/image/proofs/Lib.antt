@@ -1,5 +1,5 @@
 pub mod WordLaws
-pub mod SetLaws
 pub mod Lessening
 pub mod Draining
+pub mod Confining
 pub mod Stepping

@@ -65,6 +65,19 @@ module _ {F : ℕ → ℕ → Bool} {w a : ℕ} {src : List ℕ} where
         out true false r = refl
         out false f r = refl
 
+    -- none is left that is not linked
+    pub mode-all : (left ≡ 0 → ⊥) → (d′ : List ℕ) → length d′ ≡ length d → ((t : ℕ) → t < w * 64 → member d′ t ≡ (member d t && not (F (trailingZeros 64 left) t))) → ((t : ℕ) → t < w * 64 → member d′ t ≡ false)
+        → (t : ℕ) → t < w * 64 → member src t ≡ (member src t && anyBelow 16 (λ j. hasMode a j && F j t))
+    mode-all n d′ g f e t l = met (member src t) (anyBelow 16 (λ j. hasMode a j && F j t)) (sym (s′ .is t l) ∙ ap (λ z. z && not (anyBelow 16 (λ j. hasMode (less left) j && F j t))) (e t l))
+      where
+        s′ : Moded F w a src d₀ rest₀ d′ rest (less left)
+        s′ = mode-on n d′ rest g refl f
+
+        met : (x y : Bool) → (x && not y) ≡ false → x ≡ (x && y)
+        met true true k = refl
+        met true false k = k
+        met false y k = refl
+
     pub mode-end : left ≡ 0 → (src′ : List ℕ) → w ≤ length src → src′ ≡ minus w src d → (t : ℕ) → t < w * 64 → member src′ t ≡ (member src t && anyBelow 16 (λ j. hasMode a j && F j t))
     mode-end e src′ h q t l =
         minus-member src d src′ w h q t l

@@ -1,5 +1,8 @@
 // Types that are linked to a set, by the conditions of links. Whoever is linked to a type is linked to every type that refuses less, so a set is covered by few of the
-// sets of conditions that its types refuse. Also blocks of truth words as sets. Assumes nothing.
+// sets of conditions that its types refuse. Assumes nothing.
+pub mod blocks;
+
+use crate::blocks::pick;
 use conditions::some_word;
 use members::parts::left;
 use needs::parts::mode;
@@ -17,7 +20,7 @@ ghost use Rattle.members.specs.Members.{leftW};
 ghost use Rattle.truth.specs.Blocks.{has};
 ghost use Rattle.conditions.specs.Entries.{entry, inSome, linkedTo, refusing, side};
 ghost use Rattle.needs.specs.NeedWords.{modeW, wholeW};
-ghost use Rattle.image.specs.Covering.{Refused, RefusedBy, demands, notAll};
+ghost use Rattle.image.specs.Covering.{Refused, RefusedBy, notAll, passing};
 
 // Word x with the numbers of word y, if on is true.
 fn join_if(x: u64, y: u64, on: bool) -> u64
@@ -103,10 +106,21 @@ fn smaller(rest: &[u64], cw: &[u64], a: u64, w: usize, r: u64, from: usize) -> u
     s
 }
 
-// Those of dst stay that are in one of the entries r: whether there are any.
-fn keep_some(dst: &mut [u64], cw: &[u64], r: u64, w: usize) -> bool
+// Answers k of the types that are in one of the entries r, or, where `lack` is true, that are not in all of them.
+fn pass_word(cw: &[u64], r: u64, k: usize, lack: bool) -> u64
+    requires { ⌜ (k * 64 + 64 ≤ length (now cw)) × (k < 1024) ⌝ }
+    ensures { λ x. ⌜ Answers (passing (now (cw .entry)) r lack) k x ⌝ }
+{
+    if lack {
+        return lack_word(cw, r, k);
+    }
+    some_word(cw, r, k)
+}
+
+// Those of dst stay that are in one of the entries r, or, where `lack` is true, that are not in all of them: whether there are any.
+fn narrow(dst: &mut [u64], cw: &[u64], r: u64, w: usize, lack: bool) -> bool
     requires { ⌜ (w * 64 ≤ length (now cw)) × (w ≤ 1024) × (w ≤ length (now dst)) ⌝ }
-    ensures { λ _. ⌜ ((t : ℕ) → t < w * 64 → member (now (dst .exit)) t ≡ (member (now (dst .entry)) t && inSome (now (cw .entry)) r t)) ⌝ }
+    ensures { λ _. ⌜ ((t : ℕ) → t < w * 64 → member (now (dst .exit)) t ≡ (member (now (dst .entry)) t && passing (now (cw .entry)) r lack t)) ⌝ }
     ensures { λ b. ⌜ b ≡ anyBelow (w * 64) (member (now (dst .exit))) ⌝ }
 {
     let mut any: u64 = 0;
@@ -114,7 +128,7 @@ fn keep_some(dst: &mut [u64], cw: &[u64], r: u64, w: usize) -> bool
     while k < w {
         let x = dst[k];
         if x != 0 {
-            let y = x & some_word(cw, r, k);
+            let y = x & pass_word(cw, r, k, lack);
             dst[k] = y;
             any = any | y;
         }
@@ -123,100 +137,42 @@ fn keep_some(dst: &mut [u64], cw: &[u64], r: u64, w: usize) -> bool
     any != 0
 }
 
-// Those of rest leave that are in all of the entries r: whether there are any others.
-fn drop_all(rest: &mut [u64], cw: &[u64], r: u64, w: usize) -> bool
-    requires { ⌜ (w * 64 ≤ length (now cw)) × (w ≤ 1024) × (w ≤ length (now rest)) ⌝ }
-    ensures { λ _. ⌜ ((t : ℕ) → t < w * 64 → member (now (rest .exit)) t ≡ (member (now (rest .entry)) t && notAll (now (cw .entry)) r t)) ⌝ }
-    ensures { λ b. ⌜ b ≡ anyBelow (w * 64) (member (now (rest .exit))) ⌝ }
-{
-    let mut any: u64 = 0;
-    let mut k = 0;
-    while k < w {
-        let x = rest[k];
-        if x != 0 {
-            let y = x & lack_word(cw, r, k);
-            rest[k] = y;
-            any = any | y;
-        }
-        k += 1;
-    }
-    any != 0
-}
-
-// Those of dst stay that are linked to no type of rest, whose first w words are overwritten; a type of rest refuses in the entries a. Each turn takes a type of rest
-// that refuses little, and with it all that refuse what it refuses: whoever is linked to one of those is linked to it.
-fn drain(dst: &mut [u64], rest: &mut [u64], cw: &[u64], a: u64, w: usize)
+// Those of dst stay that are linked to no type of rest, whose first w words are overwritten; a type of rest refuses in the entries a. False only if none stays. Each
+// turn takes a type of rest, and with it all that refuse what it refuses: whoever is linked to one of those is linked to it. From the second turn on it is one that
+// refuses little; most calls end with the first.
+fn drain(dst: &mut [u64], rest: &mut [u64], cw: &[u64], a: u64, w: usize) -> bool
     requires { ⌜ (w * 64 ≤ length (now cw)) × (w ≤ 1024) × (w ≤ length (now dst)) × (w ≤ length (now rest)) ⌝ }
     ensures { λ _. ⌜ ((t : ℕ) → t < w * 64 → member (now (dst .exit)) t ≡ (member (now (dst .entry)) t && not (linkedTo w (now (cw .entry)) a (member (now (rest .entry))) t))) ⌝ }
+    ensures { λ b. ⌜ (b ≡ false → (t : ℕ) → t < w * 64 → member (now (dst .exit)) t ≡ false) ⌝ }
 {
-    let n = w * 64;
-    let mut q = wordset::first(rest, w);
-    while q < n {
-        let k = q / 64;
-        let r = smaller(rest, cw, a, w, refusal_set(cw, a, k, q % 64), k);
-        if !keep_some(dst, cw, partners(r), w) {
-            return;
+    let q = wordset::first(rest, w);
+    if q == w * 64 {
+        return true;
+    }
+    let mut r = refusal_set(cw, a, q / 64, q % 64);
+    loop {
+        if !narrow(dst, cw, partners(r), w, false) {
+            return false;
         }
-        if !drop_all(rest, cw, r, w) {
-            return;
-        }
-        q = wordset::first(rest, w);
-    }
-}
-
-// The first w words of dst become the types of src that are in block i.
-pub fn pick(dst: &mut [u64], src: &[u64], tw: &[u64], w: usize, i: usize)
-    requires { ⌜ (w ≤ length (now dst)) × (w ≤ length (now src)) × (i * w + w ≤ length (now tw)) ⌝ }
-    ensures { λ _. ⌜ now (dst .exit) ≡ packed w (λ t. member (now (src .entry)) t && has w (now (tw .entry)) i t) (now (dst .entry)) ⌝ }
-{
-    let mut k = 0;
-    while k < w {
-        let at = i * w + k;
-        dst[k] = src[k] & tw[at];
-        k += 1;
-    }
-}
-
-// The same: whether there are any.
-fn pick_some(dst: &mut [u64], src: &[u64], tw: &[u64], w: usize, i: usize) -> bool
-    requires { ⌜ (w ≤ length (now dst)) × (w ≤ length (now src)) × (i * w + w ≤ length (now tw)) ⌝ }
-    ensures { λ _. ⌜ now (dst .exit) ≡ packed w (λ t. member (now (src .entry)) t && has w (now (tw .entry)) i t) (now (dst .entry)) ⌝ }
-    ensures { λ b. ⌜ b ≡ anyBelow (w * 64) (λ t. member (now (src .entry)) t && has w (now (tw .entry)) i t) ⌝ }
-{
-    let mut any: u64 = 0;
-    let mut k = 0;
-    while k < w {
-        let at = i * w + k;
-        let x = src[k] & tw[at];
-        dst[k] = x;
-        any = any | x;
-        k += 1;
-    }
-    any != 0
-}
-
-// Whether one of the types of src in block i is not in entry e; if none is, the first w words of dst become those types.
-fn pick_unless(
-    dst: &mut [u64],
-    src: &[u64],
-    tw: &[u64],
-    w: usize,
-    i: usize,
-    cw: &[u64],
-    e: usize,
-) -> bool
-    requires { ⌜ (w ≤ length (now dst)) × (w ≤ length (now src)) × (i * w + w ≤ length (now tw)) × (w * 64 ≤ length (now cw)) × (w ≤ 1024) × (e < 64) ⌝ }
-    ensures { λ b. ⌜ b ≡ anyBelow (w * 64) (λ t. (member (now (src .entry)) t && has w (now (tw .entry)) i t) && not (entry (now (cw .entry)) e t)) ⌝ }
-    ensures { λ b. ⌜ (b ≡ false → (t : ℕ) → t < w * 64 → member (now (dst .exit)) t ≡ (member (now (src .entry)) t && has w (now (tw .entry)) i t)) ⌝ }
-{
-    let mut k = 0;
-    while k < w {
-        let at = i * w + k;
-        let x = src[k] & tw[at];
-        if x & !cw[k * 64 + e] != 0 {
+        if !narrow(rest, cw, r, w, true) {
             return true;
         }
-        dst[k] = x;
+        let p = wordset::first(rest, w);
+        let k = p / 64;
+        r = smaller(rest, cw, a, w, refusal_set(cw, a, k, p % 64), k);
+    }
+}
+
+// Whether one of rest is not in entry e.
+fn exceeds(rest: &[u64], cw: &[u64], w: usize, e: usize) -> bool
+    requires { ⌜ (w * 64 ≤ length (now cw)) × (w ≤ 1024) × (w ≤ length (now rest)) × (e < 64) ⌝ }
+    ensures { λ b. ⌜ b ≡ anyBelow (w * 64) (λ t. member (now (rest .entry)) t && not (entry (now (cw .entry)) e t)) ⌝ }
+{
+    let mut k = 0;
+    while k < w {
+        if rest[k] & !cw[k * 64 + e] != 0 {
+            return true;
+        }
         k += 1;
     }
     false
@@ -240,13 +196,16 @@ pub fn confine_linked(
     ensures { λ _. ⌜ now (dst .exit) ≡ packed w (λ t. member (now (dst .entry)) t && (not (has w (now (tw .entry)) (wholeW x) t) || linkedTo w (now (cw .entry)) (side w (now (cw .entry)) (modeW x)) (λ c. member (now (u .entry)) c && has w (now (tw .entry)) (leftW x) c) t)) (now (dst .entry)) ⌝ }
 {
     let m = mode(x);
-    if !pick_some(v, dst, tw, w, whole(x)) {
+    if !pick(v, dst, tw, w, whole(x)) {
         return;
     }
-    if pick_unless(rest, u, tw, w, left(x), cw, 24 + m % 8 + m / 8 * 32) {
+    pick(rest, u, tw, w, left(x));
+    if exceeds(rest, cw, w, 24 + m % 8 + m / 8 * 32) {
         return;
     }
-    drain(v, rest, cw, cw[w * 64 + m], w);
+    if !drain(v, rest, cw, cw[w * 64 + m], w) {
+        return;
+    }
     wordset::subtract(dst, v, w);
 }
 
@@ -269,37 +228,10 @@ pub fn step(
     while left != 0 {
         let m = u64::trailing_zeros(left) as usize;
         wordset::copy(rest, u, w);
-        drain(v, rest, cw, cw[w * 64 + m], w);
+        if !drain(v, rest, cw, cw[w * 64 + m], w) {
+            return;
+        }
         left = left & (left - 1);
     }
     wordset::subtract(dst, v, w);
-}
-
-// Those of dst stay that are in u or not in block i.
-pub fn confine(dst: &mut [u64], u: &[u64], tw: &[u64], w: usize, i: usize)
-    requires { ⌜ (w ≤ length (now dst)) × (w ≤ length (now u)) × (i * w + w ≤ length (now tw)) ⌝ }
-    ensures { λ _. ⌜ now (dst .exit) ≡ packed w (λ t. member (now (dst .entry)) t && (not (has w (now (tw .entry)) i t) || member (now (u .entry)) t)) (now (dst .entry)) ⌝ }
-{
-    let mut k = 0;
-    while k < w {
-        let at = i * w + k;
-        dst[k] = dst[k] & (!tw[at] | u[k]);
-        k += 1;
-    }
-}
-
-// Whether u has all types of dst that are in block i.
-pub fn covers(u: &[u64], dst: &[u64], tw: &[u64], w: usize, i: usize) -> bool
-    requires { ⌜ (w ≤ length (now u)) × (w ≤ length (now dst)) × (i * w + w ≤ length (now tw)) ⌝ }
-    ensures { λ r. ⌜ r ≡ not (anyBelow (w * 64) (λ t. (member (now (dst .entry)) t && has w (now (tw .entry)) i t) && not (member (now (u .entry)) t))) ⌝ }
-{
-    let mut k = 0;
-    while k < w {
-        let at = i * w + k;
-        if (dst[k] & tw[at]) & !u[k] != 0 {
-            return false;
-        }
-        k += 1;
-    }
-    true
 }

@@ -1,6 +1,6 @@
 -- A set that grows by the types that have what an EU or an AU asks of them against it, until none is added. Assumes nothing.
 use mathlib.Core.Path.{ap₂, _≡_, refl, sym, ap, _∙_, subst}
-use mathlib.Core.Bool.{or-true, Bool, true, false, not, _&&_, Bool·beq, _||_}
+use mathlib.Core.Bool.{or-false, or-true, Bool, true, false, not, _&&_, Bool·beq, _||_}
 use mathlib.Core.List.{List}
 use mathlib.Core.Logic.{_⊎_, inl, inr, ⊎-elim}
 use Prim.Native.Nat.{ℕ, _*_, _≤_, _<_}
@@ -16,7 +16,7 @@ use Rattle.ctl.specs.Elimination.{reach}
 use Rattle.ctl.specs.Formula.{Form, and, ar, au, ax, er, eu, ex, fls, lit, nlit, or, tru}
 use Rattle.ctl.specs.Modes.{single}
 use Rattle.ctl.specs.Lists.{_∈_, elem}
-use Rattle.wordset.proofs.BelowLaws.{all-false, any-false, same-or, least-below, lt-or-le}
+use Rattle.wordset.proofs.BelowLaws.{all-false, any-false, least-holds, least-lt, lt-or-le, same-or}
 use Rattle.wordset.proofs.CompareLaws.{count-fewer}
 use Rattle.wordset.proofs.PackLaws.{packWord}
 use Rattle.wordset.proofs.WordLaws.{member-past}
@@ -31,7 +31,6 @@ use Rattle.tableau.proofs.Asks.{wants-is}
 use Rattle.truth.proofs.ListWords.{join-member, list-in, list-out}
 use Rattle.truth.proofs.MemberLaws.{form-tag, left-in, right-in}
 use Rattle.truth.proofs.TruthLaws.{truth-bit}
-use Rattle.truth.proofs.Sifting.{least-in}
 
 -- ---- what is asked against a set is had against a wider one
 
@@ -122,80 +121,29 @@ module _ {ms ln : List ℕ} {w : ℕ} {tw cw ns : List ℕ} (r : Ready ms ln w t
       here t l = ap (λ j. has w tw j t) e ∙ truth-bit (r .truths) (rightAt ms i) (right-in (r .table) i h (let a = g .0 in omega arith)) t l
 
   module _ {u : List ℕ} (s : Spreading ms ln w i src u) where
-    -- it has all that are asked for
-    pub spread-covers : (dst : List ℕ) → true ≡ not (anyBelow (w * 64) (λ t. (member dst t && has w tw i t) && not (member u t)))
-        → (t : ℕ) → t < w * 64 → member dst t ≡ true → has w tw i t ≡ true → member u t ≡ elem t (Good ms ln (listOf w src) (form ms i))
-    spread-covers dst e t l m k =
-        let q = inside (member dst t) (has w tw i t) (member u t) m k (any-false (λ t. (member dst t && has w tw i t) && not (member u t)) (w * 64) (none _ e) t l) in
-        q ∙ sym (true-T _ (elem-in (s .sound t l (T-true _ q)))) ∙ ap (elem t) good-is
-      where
-        none : (b : Bool) → true ≡ not b → b ≡ false
-        none true e = e
-        none false e = refl
+    -- it has none but those that are looked for
+    pub spread-own : (t : ℕ) → t < w * 64 → member u t ≡ true → member u t ≡ elem t (Good ms ln (listOf w src) (form ms i))
+    spread-own t l q = q ∙ sym (true-T _ (elem-in (s .sound t l (T-true _ q)))) ∙ ap (elem t) good-is
 
-        inside : (a b c : Bool) → a ≡ true → b ≡ true → ((a && b) && not c) ≡ false → c ≡ true
-        inside a b true p q e = refl
-        inside a b false p q e = sym e ∙ ap₂ (λ x y. (x && y) && true) p q
+    -- those that are looked at in a turn
+    module _ (p : ℕ) (e : p ≡ leftAt ms i) where
+      abbrev asking : ℕ → Bool
+      asking t = (member src t && has w tw p t) && not (member u t)
 
-    -- those that are looked at in a turn, and those that are found
-    module _ (p : ℕ) (e : p ≡ leftAt ms i) (a b v′ : List ℕ) (fa : (t : ℕ) → t < w * 64 → member a t ≡ (member src t && has w tw p t)) (fb : (t : ℕ) → t < w * 64 → member b t ≡ (member a t && not (member u t)))
-        (fv : (t : ℕ) → t < w * 64 → member v′ t ≡ (member b t && passes ms ln (listOf w u) t (form ms i))) where
       here : (t : ℕ) → t < w * 64 → has w tw p t ≡ trueAt ms ln (leftAt ms i) t
       here t l = ap (λ j. has w tw j t) e ∙ truth-bit (r .truths) (leftAt ms i) (left-in (r .table) i h (let a = g .0 in omega arith)) t l
 
-      found : (t : ℕ) → t < w * 64 → T (member v′ t) → (t ∈ listOf w src) × T (asked ms ln i (listOf w u) t) × (T (member u t) → ⊥)
-      unfolding asked
-      found t l m =
-          let x = T-cast (fv t l) m in
-          let y = T-cast (fb t l) (and-0 (member b t) _ x) in
-          let z = T-cast (fa t l) (and-0 (member a t) (not (member u t)) y) in
-          (list-in w src l (and-0 (member src t) (has w tw p t) z), and-in (trueAt ms ln (leftAt ms i) t) (passes ms ln (listOf w u) t (form ms i)) (T-cast (here t l) (and-1 (member src t) (has w tw p t) z)) (and-1 (member b t) _ x), T-not (member u t) (and-1 (member a t) (not (member u t)) y))
-
-      inside : (x : ℕ) → x ∈ listOf w u → x ∈ Reached ms ln w i src
-      inside x m = let k = list-out w u m in s .sound x (k .0) (k .1)
-
-      pub spread-on : (u′ : List ℕ) → w ≤ length u → u′ ≡ join w u v′ → Spreading ms ln w i src u′
-      unfolding Reached
-      spread-on u′ k q = record {
-        sound = λ t l m. ⊎-elim (λ x. s .sound t l x) (λ x. (let f = found t l x in
-            reach-next (listOf w src) (asked ms ln i) (begun ms ln i) (f .0) (asked-more (listOf w u) (Reached ms ln w i src) inside t (f .1)))) (or-out (member u t) (member v′ t) (T-cast (both t l) m));
-        base = λ t m b. (let k = list-out w src m in T-cast⁻ (both t (k .0)) (or-0 (member u t) (member v′ t) (s .base t m b)));
-      }
+      -- none of them has what is asked: the set is whole
+      pub spread-end : ((t : ℕ) → t < w * 64 → (asking t && passes ms ln (listOf w u) t (form ms i)) ≡ false) → (t : ℕ) → t < w * 64 → member u t ≡ elem t (Good ms ln (listOf w src) (form ms i))
+      spread-end none t l = both-ways _ _ (λ m. elem-in (s .sound t l m)) (λ m. list-out w u (into (elem-out t (Reached ms ln w i src) m)) .1) ∙ ap (elem t) good-is
         where
-          both : (t : ℕ) → t < w * 64 → member u′ t ≡ (member u t || member v′ t)
-          both t l = join-member u v′ u′ w k q t l
-
-      -- it grew
-      pub spread-less : (u′ : List ℕ) (t : ℕ) → w ≤ length u → u′ ≡ join w u v′ → t ≡ least (w * 64) (member v′) → (t ≡ w * 64 → ⊥) → countBelow (w * 64) (λ j. not (member u′ j)) < countBelow (w * 64) (λ j. not (member u j))
-      spread-less u′ t k q el f =
-          let one = least-in w v′ t el f in
-          count-fewer (λ j. not (member u j)) (λ j. not (member u′ j)) (w * 64) within
-          (all-false (λ j. Bool·beq (not (member u j)) (not (member u′ j))) (w * 64) t (one .0)
-          (ap₂ (λ x y. Bool·beq (not x) (not y)) (false-T (member u t) (found t (one .0) (T-true _ (one .1)) .2)) (both t (one .0) ∙ ap (λ x. member u t || x) (one .1) ∙ or-true (member u t))))
-        where
-          both : (t : ℕ) → t < w * 64 → member u′ t ≡ (member u t || member v′ t)
-          both t l = join-member u v′ u′ w k q t l
-
-          within : (j : ℕ) → not (member u′ j) ≡ true → not (member u j) ≡ true
-          within j e =
-              ⊎-elim (λ l. and-both (not (member u j)) _ (sym (not-or (member u j) (member v′ j)) ∙ ap not (sym (both j l)) ∙ e) .0)
-              (λ l. ap not (sym (ap (λ x. member x j) q ∙ member-past (packWord (λ j. member u j || member v′ j)) u w j l)) ∙ e) (lt-or-le j (w * 64))
-
-      -- nothing is found: the set is whole
-      pub spread-end : w * 64 ≡ least (w * 64) (member v′) → (t : ℕ) → t < w * 64 → member u t ≡ elem t (Good ms ln (listOf w src) (form ms i))
-      spread-end el t l = both-ways _ _ (λ m. elem-in (s .sound t l m)) (λ m. list-out w u (into (elem-out t (Reached ms ln w i src) m)) .1) ∙ ap (elem t) good-is
-        where
-          none : (t : ℕ) → t < w * 64 → member v′ t ≡ false
-          none t l = least-below (w * 64) (member v′) t (omega arith)
-
           -- a type that has what is asked is in the set already
           closed : (Y : List ℕ) (t : ℕ) → t ∈ listOf w src → ((x : ℕ) → x ∈ Y → x ∈ listOf w u) → T (asked ms ln i Y t) → t ∈ listOf w u
           closed Y t m sub ask =
               let k = list-out w src m in
-              list-in w u (k .0) (not-absurd (member u t) (λ n. (let b′ = asked-more Y (listOf w u) sub t ask in
-              subst T (none t (k .0)) (T-cast⁻ (fv t (k .0)) (and-in (member b t) (passes ms ln (listOf w u) t (form ms i))
-              (T-cast⁻ (fb t (k .0)) (and-in (member a t) (not (member u t)) (T-cast⁻ (fa t (k .0)) (and-in (member src t) (has w tw p t) (k .1) (T-cast⁻ (here t (k .0)) (take-0 t b′)))) n))
-              (take-1 t b′))))))
+              list-in w u (k .0) (not-absurd (member u t) (λ n. (let b = asked-more Y (listOf w u) sub t ask in
+              subst T (none t (k .0)) (and-in (asking t) (passes ms ln (listOf w u) t (form ms i))
+              (and-in (member src t && has w tw p t) (not (member u t)) (and-in (member src t) (has w tw p t) (k .1) (T-cast⁻ (here t (k .0)) (take-0 t b))) n) (take-1 t b)))))
             where
               take-0 : (t : ℕ) → T (asked ms ln i (listOf w u) t) → T (trueAt ms ln (leftAt ms i) t)
               take-0 t ask = and-0 (trueAt ms ln (leftAt ms i) t) (passes ms ln (listOf w u) t (form ms i)) (unfold asked in ask)
@@ -207,6 +155,56 @@ module _ {ms ln : List ℕ} {w : ℕ} {tw cw ns : List ℕ} (r : Ready ms ln w t
           into {t} m =
               reach-out (listOf w src) (asked ms ln i) (λ n t. t ∈ listOf w u) (λ n t x. x) (λ n Y t m sub a. closed Y t m sub a) (begun ms ln i)
               (λ t m b. (let k = list-out w src m in list-in w u (k .0) (s .base t m b))) t (unfold Reached in m) .1
+
+      pub spread-closed : anyBelow (w * 64) asking ≡ false → (t : ℕ) → t < w * 64 → member u t ≡ elem t (Good ms ln (listOf w src) (form ms i))
+      spread-closed f = spread-end (λ t l. ap (λ x. x && passes ms ln (listOf w u) t (form ms i)) (any-false asking (w * 64) f t l))
+
+      -- those that are found
+      module _ (b v′ : List ℕ) (fb : (t : ℕ) → t < w * 64 → member b t ≡ asking t) (fv : (t : ℕ) → t < w * 64 → member v′ t ≡ (member b t && passes ms ln (listOf w u) t (form ms i))) where
+        found-is : (t : ℕ) → t < w * 64 → member v′ t ≡ (asking t && passes ms ln (listOf w u) t (form ms i))
+        found-is t l = fv t l ∙ ap (λ x. x && passes ms ln (listOf w u) t (form ms i)) (fb t l)
+
+        found : (t : ℕ) → t < w * 64 → T (member v′ t) → (t ∈ listOf w src) × T (asked ms ln i (listOf w u) t) × (T (member u t) → ⊥)
+        unfolding asked
+        found t l m =
+            let x = T-cast (found-is t l) m in
+            let y = and-0 (asking t) _ x in
+            let z = and-0 (member src t && has w tw p t) (not (member u t)) y in
+            (list-in w src l (and-0 (member src t) (has w tw p t) z), and-in (trueAt ms ln (leftAt ms i) t) (passes ms ln (listOf w u) t (form ms i)) (T-cast (here t l) (and-1 (member src t) (has w tw p t) z)) (and-1 (asking t) _ x), T-not (member u t) (and-1 (member src t && has w tw p t) (not (member u t)) y))
+
+        inside : (x : ℕ) → x ∈ listOf w u → x ∈ Reached ms ln w i src
+        inside x m = let k = list-out w u m in s .sound x (k .0) (k .1)
+
+        module _ (u′ : List ℕ) (k : w ≤ length u) (q : u′ ≡ join w u v′) where
+          both : (t : ℕ) → t < w * 64 → member u′ t ≡ (member u t || member v′ t)
+          both t l = join-member u v′ u′ w k q t l
+
+          pub spread-on : Spreading ms ln w i src u′
+          unfolding Reached
+          spread-on = record {
+            sound = λ t l m. ⊎-elim (λ x. s .sound t l x) (λ x. (let f = found t l x in
+                reach-next (listOf w src) (asked ms ln i) (begun ms ln i) (f .0) (asked-more (listOf w u) (Reached ms ln w i src) inside t (f .1)))) (or-out (member u t) (member v′ t) (T-cast (both t l) m));
+            base = λ t m b. (let k = list-out w src m in T-cast⁻ (both t (k .0)) (or-0 (member u t) (member v′ t) (s .base t m b)));
+          }
+
+          -- by none: it is whole
+          pub spread-last : anyBelow (w * 64) (member v′) ≡ false → (t : ℕ) → t < w * 64 → member u′ t ≡ elem t (Good ms ln (listOf w src) (form ms i))
+          spread-last f t l =
+              both t l ∙ ap (λ x. member u t || x) (any-false (member v′) (w * 64) f t l) ∙ or-false (member u t) ∙ spread-end (λ t l. sym (found-is t l) ∙ any-false (member v′) (w * 64) f t l) t l
+
+          -- it grew
+          pub spread-less : anyBelow (w * 64) (member v′) ≡ true → countBelow (w * 64) (λ j. not (member u′ j)) < countBelow (w * 64) (λ j. not (member u j))
+          spread-less f =
+              let l = least-lt (w * 64) (member v′) f in
+              let m = least-holds (w * 64) (member v′) l in
+              count-fewer (λ j. not (member u j)) (λ j. not (member u′ j)) (w * 64) within
+              (all-false (λ j. Bool·beq (not (member u j)) (not (member u′ j))) (w * 64) (least (w * 64) (member v′)) l
+              (ap₂ (λ x y. Bool·beq (not x) (not y)) (false-T (member u _) (found _ l (T-true _ m) .2)) (both _ l ∙ ap (λ x. member u (least (w * 64) (member v′)) || x) m ∙ or-true (member u _))))
+            where
+              within : (j : ℕ) → not (member u′ j) ≡ true → not (member u j) ≡ true
+              within j e =
+                  ⊎-elim (λ l. and-both (not (member u j)) _ (sym (not-or (member u j) (member v′ j)) ∙ ap not (sym (both j l)) ∙ e) .0)
+                  (λ l. ap not (sym (ap (λ x. member x j) q ∙ member-past (packWord (λ j. member u j || member v′ j)) u w j l)) ∙ e) (lt-or-le j (w * 64))
 
 -- ---- the loop, for whichever table the words are of
 
@@ -222,6 +220,11 @@ pub wanted : {ms ln : List ℕ} {w : ℕ} {tw cw ns : List ℕ} {x i : ℕ} → 
     → ((t : ℕ) → t < w * 64 → member v t ≡ (member b t && wants w tw cw ns (member us) x t)) → (t : ℕ) → t < w * 64 → member v t ≡ (member b t && passes ms ln (listOf w us) t (form ms i))
 wanted {x = x} {i = i} r k us b v f t l = f t l ∙ ap (λ z. member b t && z) (wants-is r us t x i l k)
 
-pub covered : (w : ℕ) (tw dst u : List ℕ) {j i : ℕ} → j ≡ i → true ≡ not (anyBelow (w * 64) (λ t. (member dst t && has w tw j t) && not (member u t)))
-    → true ≡ not (anyBelow (w * 64) (λ t. (member dst t && has w tw i t) && not (member u t)))
-covered w tw dst u q e = e ∙ ap (λ j. not (anyBelow (w * 64) (λ t. (member dst t && has w tw j t) && not (member u t)))) q
+-- u has all of a set's types that are in a block
+pub covered : (w : ℕ) (tw dst u : List ℕ) {j i : ℕ} → j ≡ i → anyBelow (w * 64) (λ t. (member dst t && has w tw j t) && not (member u t)) ≡ false
+    → (t : ℕ) → t < w * 64 → member dst t ≡ true → has w tw i t ≡ true → member u t ≡ true
+covered w tw dst u {j} q e t l m k = inside (member dst t) (has w tw j t) (member u t) m (ap (λ n. has w tw n t) q ∙ k) (any-false (λ t. (member dst t && has w tw j t) && not (member u t)) (w * 64) e t l)
+  where
+    inside : (a b c : Bool) → a ≡ true → b ≡ true → ((a && b) && not c) ≡ false → c ≡ true
+    inside a b true p q e = refl
+    inside a b false p q e = sym e ∙ ap₂ (λ x y. (x && y) && true) p q

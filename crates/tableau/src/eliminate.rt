@@ -1,9 +1,8 @@
 // The elimination, by words: a round keeps the types of a family that lack nothing which they need, and rounds go on until one eliminates
 // nothing. Assumes nothing.
-use image::confine;
+use image::blocks::pick;
+use image::blocks::pick_less;
 use image::confine_linked;
-use image::covers;
-use image::pick;
 use image::step;
 use members::parts::arg;
 use members::parts::has_mode;
@@ -23,7 +22,7 @@ ghost use Rattle.wordset.specs.Words.{member, packed};
 ghost use Rattle.members.specs.Members.{tagW};
 ghost use Rattle.truth.specs.Tables.{form};
 ghost use Rattle.truth.specs.Blocks.{has, listOf};
-ghost use Rattle.needs.specs.NeedWords.{modeW};
+ghost use Rattle.needs.specs.NeedWords.{modeW, wholeW};
 ghost use Rattle.needs.specs.Needs.{Among};
 ghost use Rattle.tableau.specs.Families.{Good, Made, Ready, Round, Rounds, Survivors, Until, exAlong, hasNext, hasNexts, stays, wants};
 
@@ -108,7 +107,8 @@ fn sift(
 }
 
 // From the types of src with the right operand of need x, an EU or an AU, u grows by those with the left operand that have what it asks of
-// them against u, until none is added, or until it has all types of dst that have the need.
+// them against u, until none is added (false), or until it has all types of dst that have the need (true). The first w words of v and of rest
+// are overwritten.
 fn spread(
     ns: &[u64],
     tw: &[u64],
@@ -121,26 +121,26 @@ fn spread(
     todo: &mut [u64],
     v: &mut [u64],
     rest: &mut [u64],
-)
+) -> bool
     requires { ⌜ Among (now ns) x × ((tagW x ≡ 6 → ⊥) × Made w (now tw) (now cw) (now ns)) ⌝ }
     requires { ⌜ (w ≤ length (now src)) × (w ≤ length (now dst)) × (w ≤ length (now u)) × (w ≤ length (now todo)) × (w ≤ length (now v)) × (w ≤ length (now rest)) ⌝ }
     ensures { λ _. ⌜ ((ms ln : List ℕ) (i : ℕ) → Ready ms ln w (now (tw .entry)) (now (cw .entry)) (now (ns .entry)) → Until ms x i → (t : ℕ) → t < w * 64 → member (now (dst .entry)) t ≡ true → has w (now (tw .entry)) i t ≡ true → member (now (u .exit)) t ≡ elem t (Good ms ln (listOf w (now (src .entry))) (form ms i))) ⌝ }
+    ensures { λ b. ⌜ (b ≡ true → (t : ℕ) → t < w * 64 → member (now (dst .entry)) t ≡ true → has w (now (tw .entry)) (wholeW x) t ≡ true → member (now (u .exit)) t ≡ true) ⌝ }
 {
     let i = whole(x);
     let p = left(x);
     pick(u, src, tw, w, right(x));
-    let n = w * 64;
     loop {
-        if covers(u, dst, tw, w, i) {
-            return;
+        if !pick_less(v, dst, tw, w, i, u) {
+            return true;
         }
-        pick(todo, src, tw, w, p);
-        wordset::subtract(todo, u, w);
+        if !pick_less(todo, src, tw, w, p, u) {
+            return false;
+        }
         sift(ns, tw, cw, w, x, u, todo, v, rest);
-        if wordset::first(todo, w) == n {
-            return;
+        if !wordset::unite(u, todo, w) {
+            return false;
         }
-        wordset::unite(u, todo, w);
     }
 }
 
@@ -166,8 +166,12 @@ fn eliminate_need(
         confine_linked(dst, v, rest, src, tw, cw, w, x);
         return;
     }
-    spread(ns, tw, cw, w, x, src, dst, u, todo, v, rest);
-    confine(dst, u, tw, w, whole(x));
+    if spread(ns, tw, cw, w, x, src, dst, u, todo, v, rest) {
+        return;
+    }
+    if pick_less(v, dst, tw, w, whole(x), u) {
+        wordset::subtract(dst, v, w);
+    }
 }
 
 // One round, from src into dst: whether it eliminated nothing.

@@ -1,8 +1,7 @@
 -- The loop that goes through the numbers of a word, from the lowest on, and keeps those that pass a test. Assumes nothing.
 use mathlib.Core.Path.{_≡_, refl, sym, ap, ap₂, _∙_}
 use mathlib.Core.Bool.{and-true, and-false, or-false, Bool, true, false, not, _&&_, _||_}
-use mathlib.Core.List.{List}
-use Prim.Native.Nat.{ℕ, zero, suc, _-_, _*_, _/_, _%_, _^_, _≤_, _<_}
+use Prim.Native.Nat.{ℕ, zero, suc, _-_, _/_, _%_, _^_, _≤_, _<_}
 use native.Mathlib.Omega.{arith}
 use native.Mathlib.Nat.{pow-suc}
 use lib.Arith.{lt-one}
@@ -10,11 +9,10 @@ use lib.Bits.{bitAnd, and-le-r}
 use lib.Count.{trailingZeros, under}
 use lib.Dec.{eqb, eqb·suc-zero, eqb·suc-suc}
 use borrow.Author.Tests.{eqb-true, eq-eqb, ne-eqb}
-use Rattle.wordset.proofs.BelowLaws.{least-below, least-holds, least-is, least-le, least-lt}
+use Rattle.wordset.proofs.BelowLaws.{least-below, least-holds, least-is, least-lt}
 use Rattle.wordset.proofs.BitLaws.{any-bit, bit-and, bit-minus, bit-none, bit-suc, bit-zero, trailing-least}
 use Rattle.wordset.specs.Below.{least}
 use Rattle.wordset.specs.Word.{bit}
-use Rattle.wordset.specs.Words.{member}
 
 -- ---- the lowest number of a word, and the word without it
 
@@ -105,10 +103,3 @@ module _ {Q : ℕ → Bool} {x rest acc : ℕ} (s : Sifting Q x rest acc) where
         ∙ turn (bit acc c) (bit rest c) (Q c) on (eqb c (trailingZeros 64 rest))
         (λ z. (let q : c ≡ trailingZeros 64 rest = eqb-true c (trailingZeros 64 rest) z in (ap (bit rest) q ∙ lowest 64 rest (omega arith) (s .fits) n .1, e ∙ ap Q (sym q)))) ∙ s .is c l;
   }
-
--- the least member, where there is one
-pub least-in : (w : ℕ) (ws : List ℕ) (t : ℕ) → t ≡ least (w * 64) (member ws) → (t ≡ w * 64 → ⊥) → (t < w * 64) × (member ws t ≡ true)
-least-in w ws t e f =
-    let l = least-le (w * 64) (member ws) in
-    let k : t < w * 64 = omega arith in
-    (k, ap (member ws) e ∙ least-holds (w * 64) (member ws) (omega arith))

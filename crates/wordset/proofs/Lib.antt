@@ -5,5 +5,6 @@ pub mod WordLaws
 pub mod PackLaws
 pub mod AnswersLaws
 pub mod Filling
+pub mod Packing
 pub mod Scanning
 pub mod Searching

@@ -3,7 +3,7 @@ ghost use mathlib.Core.Path.{_≡_};
 ghost use mathlib.Core.Bool.{Bool·beq, false, _&&_, cond};
 ghost use Prim.Native.Nat.{ℕ, _+_, _*_, _^_, _≤_, _<_};
 ghost use lib.ListN.{length};
-ghost use Rattle.wordset.specs.Below.{allBelow, countBelow, least};
+ghost use Rattle.wordset.specs.Below.{allBelow, anyBelow, countBelow, least};
 ghost use Rattle.wordset.specs.Words.{member, packed, join, minus};
 
 // Whether j is a member.
@@ -26,16 +26,21 @@ pub fn copy(dst: &mut [u64], src: &[u64], w: usize)
     }
 }
 
-// dst := dst ∪ src, in the first w words.
-pub fn unite(dst: &mut [u64], src: &[u64], w: usize)
+// dst := dst ∪ src, in the first w words: whether src has any.
+pub fn unite(dst: &mut [u64], src: &[u64], w: usize) -> bool
     requires { ⌜ (w ≤ length (now dst)) × (w ≤ length (now src)) ⌝ }
     ensures { λ _. ⌜ now (dst .exit) ≡ join w (now (dst .entry)) (now (src .entry)) ⌝ }
+    ensures { λ b. ⌜ b ≡ anyBelow (w * 64) (member (now (src .entry))) ⌝ }
 {
+    let mut any: u64 = 0;
     let mut i = 0;
     while i < w {
-        dst[i] = dst[i] | src[i];
+        let x = src[i];
+        dst[i] = dst[i] | x;
+        any = any | x;
         i += 1;
     }
+    any != 0
 }
 
 // dst := dst less src, in the first w words.

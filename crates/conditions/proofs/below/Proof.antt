@@ -19,33 +19,12 @@ first-off b e = ap (λ x. x && b) e
 body : {ms : List ℕ} → Table ms → {j g p : ℕ} → j < length ms → g ≡ tagAt ms j → g ≡ 7 → p ≡ leftAt ms j → p < length ms
 body t {j} h e q f = let o = t .operands j h (omega arith) .0 in omega arith
 
-mul-x : tie.Need-mul-x
-mul-x c = search needs
-
-shared-slice-read-x : tie.Need-shared-slice-read-x
-shared-slice-read-x c = search needs
-
-tag-requires : tie.Need-tag-requires
-tag-requires c κs = search needs
-
-none-requires : tie.Need-none-requires
-none-requires c κs = search needs
-
 returns : tie.Need-returns
 returns c =
     let b1 = c .before in
     let b2 = b1 .before in
     let b5 = b2 .before .before .before in
     below-tag (b5 .pre .0) _ (b5 .pre .1) (c .none .ensures) _ (b2 .tag .ensures) (b1 .if1 .taken)
-
-arg-requires : tie.Need-arg-requires
-arg-requires c κs = search needs
-
-mode-of-requires : tie.Need-mode-of-requires
-mode-of-requires c κs = search needs
-
-none-requires-2 : tie.Need-none-requires-2
-none-requires-2 c κs = search needs
 
 returns-2 : tie.Need-returns-2
 returns-2 c =
@@ -55,12 +34,6 @@ returns-2 c =
     let b8 = b3 .before .before .before .before .before in
     below-mode (b8 .pre .0) _ (b8 .pre .1) (c .none2 .ensures) _ _ (b3 .arg .ensures) (b2 .mode-of .ensures) (b1 .if2 .taken)
 
-left-requires : tie.Need-left-requires
-left-requires c κs = search needs
-
-mul-y : tie.Need-mul-y
-mul-y c = search needs
-
 shared-slice-read-y : tie.Need-shared-slice-read-y
 shared-slice-read-y c =
     let b1 = c .before in
@@ -69,12 +42,6 @@ shared-slice-read-y c =
     let b9 = b6 .before .before .before in
     body (b9 .pre .0) (b9 .pre .1) (b6 .tag .ensures) (b5 .if1 .left) (b1 .left .ensures)
 
-tag-requires-2 : tie.Need-tag-requires-2
-tag-requires-2 c κs = search needs
-
-none-requires-3 : tie.Need-none-requires-3
-none-requires-3 c κs = search needs
-
 returns-3 : tie.Need-returns-3
 returns-3 c =
     let b1 = c .before in
@@ -82,15 +49,6 @@ returns-3 c =
     let b4 = b2 .before .before in
     let b12 = b4 .before .before .before .before .before .before .before .before in
     below-other (b12 .pre .0) _ (b12 .pre .1) (c .none3 .ensures) _ _ (b4 .left .ensures) (b2 .tag2 .ensures) (b1 .if3 .taken)
-
-arg-requires-2 : tie.Need-arg-requires-2
-arg-requires-2 c κs = search needs
-
-has-mode-requires : tie.Need-has-mode-requires
-has-mode-requires c κs = search needs
-
-none-requires-4 : tie.Need-none-requires-4
-none-requires-4 c κs = search needs
 
 returns-4 : tie.Need-returns-4
 returns-4 c =
@@ -104,15 +62,6 @@ returns-4 c =
     let b12 = b11 .before in
     let b15 = b12 .before .before .before in
     below-way (b15 .pre .0) _ (b15 .pre .1) (c .none4 .ensures) _ _ _ _ (b10 .arg .ensures) (b9 .mode-of .ensures) (b7 .left .ensures) (body (b15 .pre .0) (b15 .pre .1) (b12 .tag .ensures) (b11 .if1 .left) (b7 .left .ensures)) (b3 .arg2 .ensures) (first-off _ (sym (b2 .has-mode .ensures) ∙ not-true _ (b1 .if4 .taken)))
-
-add-has-mode : tie.Need-add-has-mode
-add-has-mode c = search needs
-
-has-mode-requires-2 : tie.Need-has-mode-requires-2
-has-mode-requires-2 c κs = search needs
-
-none-requires-5 : tie.Need-none-requires-5
-none-requires-5 c κs = search needs
 
 returns-5 : tie.Need-returns-5
 returns-5 c =
@@ -128,9 +77,6 @@ returns-5 c =
     let b14 = b13 .before in
     let b17 = b14 .before .before .before in
     below-way (b17 .pre .0) _ (b17 .pre .1) (c .none5 .ensures) _ _ _ _ (b12 .arg .ensures) (b11 .mode-of .ensures) (b9 .left .ensures) (body (b17 .pre .0) (b17 .pre .1) (b14 .tag .ensures) (b13 .if1 .left) (b9 .left .ensures)) (b5 .arg2 .ensures) (ap₂ _&&_ (sym (b4 .has-mode .ensures) ∙ not-false _ (b3 .if4 .left)) (sym (b2 .has-mode2 .ensures) ∙ not-true _ (b1 .if5 .taken)))
-
-right-requires : tie.Need-right-requires
-right-requires c κs = search needs
 
 returns-6 : tie.Need-returns-6
 returns-6 c =
@@ -154,28 +100,28 @@ pub below-spec : {M : Type 1} → statement M
 below-spec =
     tie.close
     (tie.spec
-    mul-x
-    shared-slice-read-x
-    tag-requires
-    none-requires
+    (λ c. search needs)
+    (λ c. search needs)
+    (λ c κs. search needs)
+    (λ c κs. search needs)
     returns
-    arg-requires
-    mode-of-requires
-    none-requires-2
+    (λ c κs. search needs)
+    (λ c κs. search needs)
+    (λ c κs. search needs)
     returns-2
-    left-requires
-    mul-y
+    (λ c κs. search needs)
+    (λ c. search needs)
     shared-slice-read-y
-    tag-requires-2
-    none-requires-3
+    (λ c κs. search needs)
+    (λ c κs. search needs)
     returns-3
-    arg-requires-2
-    has-mode-requires
-    none-requires-4
+    (λ c κs. search needs)
+    (λ c κs. search needs)
+    (λ c κs. search needs)
     returns-4
-    add-has-mode
-    has-mode-requires-2
-    none-requires-5
+    (λ c. search needs)
+    (λ c κs. search needs)
+    (λ c κs. search needs)
     returns-5
-    right-requires
+    (λ c κs. search needs)
     returns-6)

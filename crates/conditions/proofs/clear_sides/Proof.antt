@@ -12,32 +12,8 @@ Inv-loop cw₀ w m₀ cw m = Cleared w cw₀ cw m
 abbrev μ-loop : tie.MeasureT-loop
 μ-loop cw₀ w m₀ cw m = 8 - m
 
-loop-holds : tie.Need-loop-holds Inv-loop μ-loop
-loop-holds c = clear-start
-
-mul-cw : tie.Need-mul-cw Inv-loop μ-loop
-mul-cw c = search needs
-
-add-cw : tie.Need-add-cw Inv-loop μ-loop
-add-cw c = search needs
-
-mul-cw-2 : tie.Need-mul-cw-2 Inv-loop μ-loop
-mul-cw-2 c = search needs
-
-slice-write-cw : tie.Need-slice-write-cw Inv-loop μ-loop
-slice-write-cw c = search needs
-
-add-m : tie.Need-add-m Inv-loop μ-loop
-add-m c = search needs
-
-loop-less : tie.Need-loop-less Inv-loop μ-loop
-loop-less c = search needs
-
 loop-again : tie.Need-loop-again Inv-loop μ-loop
 loop-again c = clear-on (c .before .loop .inv) (c .loop-test .taken) (c .before .before .pre .0)
-
-same-length : tie.Need-same-length Inv-loop μ-loop
-same-length c = c .before .loop .inv .long
 
 returns : tie.Need-returns Inv-loop μ-loop
 returns c = λ m h. c .before .loop .inv .done m (omega arith)
@@ -48,13 +24,13 @@ clear-sides-spec =
     (tie.spec
     Inv-loop
     μ-loop
-    loop-holds
-    mul-cw
-    add-cw
-    mul-cw-2
-    slice-write-cw
-    add-m
-    loop-less
+    (λ c. clear-start)
+    (λ c. search needs)
+    (λ c. search needs)
+    (λ c. search needs)
+    (λ c. search needs)
+    (λ c. search needs)
+    (λ c. search needs)
     loop-again
-    same-length
+    (λ c. c .before .loop .inv .long)
     returns)

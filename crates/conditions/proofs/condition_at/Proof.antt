@@ -5,12 +5,6 @@ use borrow.Author.Needs.{needs}
 use Rattle.conditions.proofs.condition_at.Statement.{statement}
 use Rattle.conditions.proofs.condition_at.Tie as tie
 
-shared-slice-read-j : tie.Need-shared-slice-read-j
-shared-slice-read-j c = search needs
-
-cast-j : tie.Need-cast-j
-cast-j c = omega (arith, c .shared-slice-known3 .given (c .before .before .before .args .c / 2))
-
 own-requires : tie.Need-own-requires
 own-requires c κs =
     let b4 = c .before .before .before .before in
@@ -33,4 +27,4 @@ returns-2 c =
 
 pub condition-at-spec : {M : Type 1} → statement M
 condition-at-spec =
-    tie.close (tie.spec shared-slice-read-j cast-j own-requires returns below-requires returns-2)
+    tie.close (tie.spec (λ c. search needs) (λ c. omega (arith, c .shared-slice-known3 .given (c .before .before .before .args .c / 2))) own-requires returns below-requires returns-2)

@@ -5,21 +5,12 @@ use borrow.Author.Needs.{needs}
 use Rattle.conditions.proofs.condition_words.Statement.{statement}
 use Rattle.conditions.proofs.condition_words.Tie as tie
 
-put-conditions-requires : tie.Need-put-conditions-requires
-put-conditions-requires c κs = search needs
-
-turn-sides-requires : tie.Need-turn-sides-requires
-turn-sides-requires c κs = search needs
-
 put-sums-requires : tie.Need-put-sums-requires
 put-sums-requires c κs =
     let p = c .before .before .before .before .before .before .before .before .before .before .before .before .before .pre in
     let k = c .before .before .before .before .before .before .before .put-conditions .kept .1 .1 .1 .1 .0 in
     let l = c .before .before .before .turn-sides .kept .0 in
     (((let h = p .1 .1 .0 in omega arith), p .1 .1 .1), sides-low (p .0 .1 .1 .1) (c .before .before .before .before .before .before .before .put-conditions .ensures) (c .before .before .before .turn-sides .ensures))
-
-same-length : tie.Need-same-length
-same-length c = search needs
 
 returns : tie.Need-returns
 returns c =
@@ -32,4 +23,4 @@ returns c =
 pub condition-words-spec : {M : Type 1} → statement M
 condition-words-spec =
     tie.close
-    (tie.spec put-conditions-requires turn-sides-requires put-sums-requires same-length returns)
+    (tie.spec (λ c κs. search needs) (λ c κs. search needs) put-sums-requires (λ c. search needs) returns)

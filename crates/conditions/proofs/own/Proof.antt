@@ -6,18 +6,6 @@ use borrow.Author.Needs.{needs}
 use Rattle.conditions.proofs.own.Statement.{statement}
 use Rattle.conditions.proofs.own.Tie as tie
 
-mul-x : tie.Need-mul-x
-mul-x c = search needs
-
-shared-slice-read-x : tie.Need-shared-slice-read-x
-shared-slice-read-x c = search needs
-
-tag-requires : tie.Need-tag-requires
-tag-requires c κs = search needs
-
-none-requires : tie.Need-none-requires
-none-requires c κs = search needs
-
 returns : tie.Need-returns
 returns c =
     let b1 = c .before in
@@ -25,24 +13,12 @@ returns c =
     let b5 = b2 .before .before .before in
     own-other (b5 .pre .0) _ (b5 .pre .1) _ (b2 .tag .ensures) (λ e. (let a = b1 .if1 .taken in omega (arith, a, e))) (λ e. (let a = b1 .if1 .taken in omega (arith, a, e))) (c .none .ensures)
 
-none-requires-2 : tie.Need-none-requires-2
-none-requires-2 c κs = search needs
-
 returns-2 : tie.Need-returns-2
 returns-2 c =
     let b1 = c .before in
     let b3 = b1 .before .before in
     let b6 = b3 .before .before .before in
     own-other (b6 .pre .0) _ (b6 .pre .1) _ (b3 .tag .ensures) (λ e. (let a = b1 .if2 .taken in omega (arith, a, e))) (λ e. (let a = b1 .if2 .taken in omega (arith, a, e))) (c .none2 .ensures)
-
-arg-requires : tie.Need-arg-requires
-arg-requires c κs = search needs
-
-mode-of-requires : tie.Need-mode-of-requires
-mode-of-requires c κs = search needs
-
-left-requires : tie.Need-left-requires
-left-requires c κs = search needs
 
 returns-3 : tie.Need-returns-3
 returns-3 c =
@@ -55,9 +31,6 @@ returns-3 c =
     let b9 = b6 .before .before .before in
     own-forth (b9 .pre .0) _ (b9 .pre .1) _ _ _ (b6 .tag .ensures) (b3 .arg .ensures) (b2 .mode-of .ensures) _ (c .left .ensures) (let a = b5 .if1 .left in omega arith) (let a = b4 .if2 .left in omega arith) (b1 .if3 .taken)
 
-none-requires-3 : tie.Need-none-requires-3
-none-requires-3 c κs = search needs
-
 returns-4 : tie.Need-returns-4
 returns-4 c =
     let b1 = c .before in
@@ -67,9 +40,6 @@ returns-4 c =
     let b7 = b4 .before .before .before in
     let b10 = b7 .before .before .before in
     own-ex (b10 .pre .0) _ (b10 .pre .1) _ _ _ (b7 .tag .ensures) (b4 .arg .ensures) (b3 .mode-of .ensures) (b1 .if4 .taken) (let a = b2 .if3 .left in omega arith) (c .none3 .ensures)
-
-none-requires-4 : tie.Need-none-requires-4
-none-requires-4 c κs = search needs
 
 returns-5 : tie.Need-returns-5
 returns-5 c =
@@ -82,9 +52,6 @@ returns-5 c =
     let b8 = b7 .before in
     let b11 = b8 .before .before .before in
     own-ax (b11 .pre .0) _ (b11 .pre .1) _ _ _ (b8 .tag .ensures) (b5 .arg .ensures) (b4 .mode-of .ensures) (let a = b7 .if1 .left in let b = b6 .if2 .left in let d = b2 .if4 .left in omega (arith, a, b, d)) (b1 .if5 .taken) (c .none4 .ensures)
-
-left-requires-2 : tie.Need-left-requires-2
-left-requires-2 c κs = search needs
 
 returns-6 : tie.Need-returns-6
 returns-6 c =
@@ -103,20 +70,20 @@ pub own-spec : {M : Type 1} → statement M
 own-spec =
     tie.close
     (tie.spec
-    mul-x
-    shared-slice-read-x
-    tag-requires
-    none-requires
+    (λ c. search needs)
+    (λ c. search needs)
+    (λ c κs. search needs)
+    (λ c κs. search needs)
     returns
-    none-requires-2
+    (λ c κs. search needs)
     returns-2
-    arg-requires
-    mode-of-requires
-    left-requires
+    (λ c κs. search needs)
+    (λ c κs. search needs)
+    (λ c κs. search needs)
     returns-3
-    none-requires-3
+    (λ c κs. search needs)
     returns-4
-    none-requires-4
+    (λ c κs. search needs)
     returns-5
-    left-requires-2
+    (λ c κs. search needs)
     returns-6)

@@ -11,16 +11,10 @@ use borrow.Author.Needs.{needs}
 use Rattle.conditions.proofs.put_condition.Statement.{statement}
 use Rattle.conditions.proofs.put_condition.Tie as tie
 
-condition-at-requires : tie.Need-condition-at-requires
-condition-at-requires c κs = search needs
-
 returns : tie.Need-returns
 returns c =
     let b6 = c .before .before .before .before .before .before in
     side-none (b6 .pre .1 .1 .1 .1) (c .before .condition-at .ensures) (c .if1 .taken)
-
-reversed-requires : tie.Need-reversed-requires
-reversed-requires c κs = search needs
 
 put-entry-requires : tie.Need-put-entry-requires
 put-entry-requires c κs =
@@ -31,17 +25,11 @@ put-entry-requires c κs =
     let r = b8 .pre .1 .0 .room in
     (block-fits _ _ _ _ (i .0) r, block-fits _ _ _ _ (i .1) r, b8 .pre .1 .1 .0, b8 .pre .1 .1 .1 .0, (let l = b8 .pre .1 .1 .1 .1 in omega arith))
 
-same-length : tie.Need-same-length
-same-length c = search needs
-
 returns-2 : tie.Need-returns-2
 returns-2 c =
     let b12 = c .before .before .before .before .before .before .before .before .before .before .before .before in
     let e = c .before .before .before .put-entry .ensures in
     side-refused (b12 .pre .1 .1 .1 .1) (c .before .before .before .before .before .before .before .condition-at .ensures) (b12 .pre .1 .0) (c .before .before .before .before .before .before .if1 .left) (c .before .before .before .before .before .reversed .ensures) (e .0) (e .1 (not-true _ (c .if2 .taken)))
-
-add-put-entry : tie.Need-add-put-entry
-add-put-entry c = search needs
 
 put-entry-requires-2 : tie.Need-put-entry-requires-2
 put-entry-requires-2 c κs =
@@ -52,9 +40,6 @@ put-entry-requires-2 c κs =
     let r = b13 .pre .1 .0 .room in
     let k = c .before .before .before .before .put-entry .kept .1 .1 .1 .1 .1 .0 in
     (block-fits _ _ _ _ (i .0) r, block-fits _ _ _ _ (i .1) r, (let z = b13 .pre .1 .1 .0 in omega arith), b13 .pre .1 .1 .1 .0, (let l = b13 .pre .1 .1 .1 .1 in omega arith))
-
-same-length-2 : tie.Need-same-length-2
-same-length-2 c = search needs
 
 returns-3 : tie.Need-returns-3
 returns-3 c =
@@ -128,15 +113,15 @@ pub put-condition-spec : {M : Type 1} → statement M
 put-condition-spec =
     tie.close
     (tie.spec
-    condition-at-requires
+    (λ c κs. search needs)
     returns
-    reversed-requires
+    (λ c κs. search needs)
     put-entry-requires
-    same-length
+    (λ c. search needs)
     returns-2
-    add-put-entry
+    (λ c. search needs)
     put-entry-requires-2
-    same-length-2
+    (λ c. search needs)
     returns-3
     mul-at
     add-at

@@ -14,38 +14,11 @@ Inv-loop tw w rule i p cw₀ c any₀ k₀ cw any k = Gathered (λ t. selects ru
 abbrev μ-loop : tie.MeasureT-loop
 μ-loop tw w rule i p cw₀ c any₀ k₀ cw any k = w - k
 
-loop-holds : tie.Need-loop-holds Inv-loop μ-loop
-loop-holds c = gather-start
-
-selected-requires : tie.Need-selected-requires Inv-loop μ-loop
-selected-requires c κs = search needs
-
-mul-cw : tie.Need-mul-cw Inv-loop μ-loop
-mul-cw c = search needs
-
-add-cw : tie.Need-add-cw Inv-loop μ-loop
-add-cw c = search needs
-
-mul-cw-2 : tie.Need-mul-cw-2 Inv-loop μ-loop
-mul-cw-2 c = search needs
-
-slice-write-cw : tie.Need-slice-write-cw Inv-loop μ-loop
-slice-write-cw c = search needs
-
-add-k : tie.Need-add-k Inv-loop μ-loop
-add-k c = search needs
-
-loop-less : tie.Need-loop-less Inv-loop μ-loop
-loop-less c = search needs
-
 loop-again : tie.Need-loop-again Inv-loop μ-loop
 loop-again c =
     let b2 = c .before .before in
     let p = b2 .before .before .before .pre in
     gather-on (b2 .loop .inv) _ (c .before .loop-test .taken) (p .2) (p .4) (c .selected .ensures)
-
-same-length : tie.Need-same-length Inv-loop μ-loop
-same-length c = c .before .loop .inv .rows .long
 
 returns : tie.Need-returns Inv-loop μ-loop
 returns c =
@@ -60,14 +33,14 @@ put-entry-spec =
     (tie.spec
     Inv-loop
     μ-loop
-    loop-holds
-    selected-requires
-    mul-cw
-    add-cw
-    mul-cw-2
-    slice-write-cw
-    add-k
-    loop-less
+    (λ c. gather-start)
+    (λ c κs. search needs)
+    (λ c. search needs)
+    (λ c. search needs)
+    (λ c. search needs)
+    (λ c. search needs)
+    (λ c. search needs)
+    (λ c. search needs)
     loop-again
-    same-length
+    (λ c. c .before .loop .inv .rows .long)
     returns)

@@ -13,38 +13,11 @@ Inv-loop cw₀ w a e k₀ cw k = Rows (inSome cw₀ a) w e cw₀ cw k
 abbrev μ-loop : tie.MeasureT-loop
 μ-loop cw₀ w a e k₀ cw k = w - k
 
-loop-holds : tie.Need-loop-holds Inv-loop μ-loop
-loop-holds c = rows-start
-
-some-word-requires : tie.Need-some-word-requires Inv-loop μ-loop
-some-word-requires c κs = (search needs, search needs)
-
-mul-cw : tie.Need-mul-cw Inv-loop μ-loop
-mul-cw c = search needs
-
-add-cw : tie.Need-add-cw Inv-loop μ-loop
-add-cw c = search needs
-
-mul-cw-2 : tie.Need-mul-cw-2 Inv-loop μ-loop
-mul-cw-2 c = search needs
-
-slice-write-cw : tie.Need-slice-write-cw Inv-loop μ-loop
-slice-write-cw c = search needs
-
-add-k : tie.Need-add-k Inv-loop μ-loop
-add-k c = search needs
-
-loop-less : tie.Need-loop-less Inv-loop μ-loop
-loop-less c = search needs
-
 loop-again : tie.Need-loop-again Inv-loop μ-loop
 loop-again c =
     let b3 = c .before .before .before in
     let p = b3 .before .before .pre in
     rows-on (b3 .loop .inv) _ (c .before .before .loop-test .taken) (p .0) (p .2) (rows-next (b3 .loop .inv) _ (p .2) (c .some-word .ensures))
-
-same-length : tie.Need-same-length Inv-loop μ-loop
-same-length c = c .before .loop .inv .long
 
 returns : tie.Need-returns Inv-loop μ-loop
 returns c = rows-end (c .before .loop .inv) (omega arith) (c .before .before .before .pre .2)
@@ -55,14 +28,14 @@ put-sum-spec =
     (tie.spec
     Inv-loop
     μ-loop
-    loop-holds
-    some-word-requires
-    mul-cw
-    add-cw
-    mul-cw-2
-    slice-write-cw
-    add-k
-    loop-less
+    (λ c. rows-start)
+    (λ c κs. (search needs, search needs))
+    (λ c. search needs)
+    (λ c. search needs)
+    (λ c. search needs)
+    (λ c. search needs)
+    (λ c. search needs)
+    (λ c. search needs)
     loop-again
-    same-length
+    (λ c. c .before .loop .inv .long)
     returns)

@@ -1,4 +1,4 @@
--- `fill_words` meets its contract: the truth words and the link words are what the elimination goes by. Assumes nothing.
+-- `fill_words` meets its contract: the truth words, the condition words and the needs are what the elimination goes by. Assumes nothing.
 use native.Mathlib.Nat.{add-mul}
 use native.Mathlib.Omega.{arith}
 use lib.ListN.{length}

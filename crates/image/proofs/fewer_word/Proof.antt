@@ -14,12 +14,6 @@ returns c =
     let b2 = c .before .before in
     fewer-none (λ u. notAll (b2 .args .cw .now) (b2 .args .r) u && not (anyBelow 64 (λ e. (bit (b2 .args .a) e && not (bit (b2 .args .r) e)) && entry (b2 .args .cw .now) e u))) (c .if1 .taken)
 
-lack-word-requires : tie.Need-lack-word-requires
-lack-word-requires c κs = search needs
-
-some-word-requires : tie.Need-some-word-requires
-some-word-requires c κs = search needs
-
 returns-2 : tie.Need-returns-2
 returns-2 c =
     let b1 = c .before in
@@ -27,4 +21,4 @@ returns-2 c =
     fewer-some (b4 .args .cw .now) (b4 .args .a) (b4 .args .r) (b4 .fits .r .fits) (b1 .lack-word .ensures) (c .some-word .ensures)
 
 pub fewer-word-spec : {M : Type 1} → statement M
-fewer-word-spec = tie.close (tie.spec returns lack-word-requires some-word-requires returns-2)
+fewer-word-spec = tie.close (tie.spec returns (λ c κs. search needs) (λ c κs. search needs) returns-2)

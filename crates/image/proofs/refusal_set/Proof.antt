@@ -27,33 +27,6 @@ low c = lowest 64 _ (omega arith) (c .before .loop .inv .fits) (c .loop-test .ta
 at : (c : tie.In-loop Inv-loop μ-loop) → c .before .before .before .args .k * 64 + zeros c < length (c .before .before .before .args .cw .now)
 at c = (let l = low c in let h = c .before .before .before .pre .0 in omega arith)
 
-loop-holds : tie.Need-loop-holds Inv-loop μ-loop
-loop-holds c = sift-start (c .before .fits .a .fits)
-
-cast-c : tie.Need-cast-c Inv-loop μ-loop
-cast-c c = (let l = low c in omega arith)
-
-sub-next : tie.Need-sub-next Inv-loop μ-loop
-sub-next c = (let n = c .loop-test .taken in omega arith)
-
-mul-join-if : tie.Need-mul-join-if Inv-loop μ-loop
-mul-join-if c = (let h = c .before .before .before .pre .1 in omega arith)
-
-add-join-if : tie.Need-add-join-if Inv-loop μ-loop
-add-join-if c = (let l = low c in let h = c .before .before .before .pre .1 in omega arith)
-
-mul-join-if-2 : tie.Need-mul-join-if-2 Inv-loop μ-loop
-mul-join-if-2 c = (let l = low c in let h = c .before .before .before .pre .1 in omega arith)
-
-shared-slice-read-join-if : tie.Need-shared-slice-read-join-if Inv-loop μ-loop
-shared-slice-read-join-if c = at (c .before)
-
-shr-join-if : tie.Need-shr-join-if Inv-loop μ-loop
-shr-join-if c = search needs
-
-join-if-requires : tie.Need-join-if-requires Inv-loop μ-loop
-join-if-requires c κs = search needs
-
 loop-less : tie.Need-loop-less Inv-loop μ-loop
 loop-less c = less-lt _ (c .before .before .loop-test .taken)
 
@@ -76,15 +49,15 @@ refusal-set-spec =
     (tie.spec
     Inv-loop
     μ-loop
-    loop-holds
-    cast-c
-    sub-next
-    mul-join-if
-    add-join-if
-    mul-join-if-2
-    shared-slice-read-join-if
-    shr-join-if
-    join-if-requires
+    (λ c. sift-start (c .before .fits .a .fits))
+    (λ c. (let l = low c in omega arith))
+    (λ c. (let n = c .loop-test .taken in omega arith))
+    (λ c. (let h = c .before .before .before .pre .1 in omega arith))
+    (λ c. (let l = low c in let h = c .before .before .before .pre .1 in omega arith))
+    (λ c. (let l = low c in let h = c .before .before .before .pre .1 in omega arith))
+    (λ c. at (c .before))
+    (λ c. search needs)
+    (λ c κs. search needs)
     loop-less
     loop-again
     returns)

@@ -26,9 +26,6 @@ loop-holds c =
 returns : tie.Need-returns Inv-loop μ-loop
 returns c = c .before .before .loop .inv .is
 
-sub-if2 : tie.Need-sub-if2 Inv-loop μ-loop
-sub-if2 c = (let n = c .if1 .left in omega arith)
-
 returns-2 : tie.Need-returns-2 Inv-loop μ-loop
 returns-2 c = c .before .before .before .loop .inv .is
 
@@ -63,9 +60,6 @@ loop-less c =
 
 loop-again : tie.Need-loop-again Inv-loop μ-loop
 loop-again c = c .before .before .before .before .before .before .loop .inv
-
-cast-refusal-set : tie.Need-cast-refusal-set Inv-loop μ-loop
-cast-refusal-set c = (let l = low c in omega arith)
 
 refusal-set-requires : tie.Need-refusal-set-requires Inv-loop μ-loop
 refusal-set-requires c κs =
@@ -102,7 +96,7 @@ smaller-spec =
     μ-loop
     loop-holds
     returns
-    sub-if2
+    (λ c. (let n = c .if1 .left in omega arith))
     returns-2
     mul-fewer-word
     shared-slice-read-fewer-word
@@ -110,7 +104,7 @@ smaller-spec =
     add-k
     loop-less
     loop-again
-    cast-refusal-set
+    (λ c. (let l = low c in omega arith))
     refusal-set-requires
     loop-less-2
     loop-again-2

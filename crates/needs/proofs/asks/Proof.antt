@@ -5,15 +5,6 @@ use borrow.Author.Needs.{needs}
 use Rattle.needs.proofs.asks.Statement.{statement}
 use Rattle.needs.proofs.asks.Tie as tie
 
-tag-requires : tie.Need-tag-requires
-tag-requires c κs = search needs
-
-arg-requires : tie.Need-arg-requires
-arg-requires c κs = search needs
-
-mode-of-requires : tie.Need-mode-of-requires
-mode-of-requires c κs = search needs
-
 returns : tie.Need-returns
 returns c =
     let b3 = c .before .before .before in
@@ -33,4 +24,4 @@ returns-4 c = asks-until _ (c .before .before .tag .ensures) (c .before .if1 .le
 pub asks-spec : {M : Type 1} → statement M
 asks-spec =
     tie.close
-    (tie.spec tag-requires arg-requires mode-of-requires returns returns-2 returns-3 returns-4)
+    (tie.spec (λ c κs. search needs) (λ c κs. search needs) (λ c κs. search needs) returns returns-2 returns-3 returns-4)

@@ -12,24 +12,6 @@ Inv-loop ms acc₀ i₀ acc i = FieldsSoFar ms i acc
 abbrev μ-loop : tie.MeasureT-loop
 μ-loop ms acc₀ i₀ acc i = length ms - i
 
-loop-holds : tie.Need-loop-holds Inv-loop μ-loop
-loop-holds c = fields-start
-
-mul-field-of : tie.Need-mul-field-of Inv-loop μ-loop
-mul-field-of c = search needs
-
-shared-slice-read-field-of : tie.Need-shared-slice-read-field-of Inv-loop μ-loop
-shared-slice-read-field-of c = search needs
-
-field-of-requires : tie.Need-field-of-requires Inv-loop μ-loop
-field-of-requires c κs = search needs
-
-add-i : tie.Need-add-i Inv-loop μ-loop
-add-i c = search needs
-
-loop-less : tie.Need-loop-less Inv-loop μ-loop
-loop-less c = search needs
-
 loop-again : tie.Need-loop-again Inv-loop μ-loop
 loop-again c = fields-on _ (c .before .before .before .loop .inv) (c .before .before .loop-test .taken) (c .field-of .ensures)
 
@@ -42,11 +24,11 @@ ex-fields-spec =
     (tie.spec
     Inv-loop
     μ-loop
-    loop-holds
-    mul-field-of
-    shared-slice-read-field-of
-    field-of-requires
-    add-i
-    loop-less
+    (λ c. fields-start)
+    (λ c. search needs)
+    (λ c. search needs)
+    (λ c κs. search needs)
+    (λ c. search needs)
+    (λ c. search needs)
     loop-again
     returns)

@@ -8,18 +8,6 @@ use borrow.Author.Needs.{needs}
 use Rattle.needs.proofs.ex_part.Statement.{statement}
 use Rattle.needs.proofs.ex_part.Tie as tie
 
-mul-field-of : tie.Need-mul-field-of
-mul-field-of c = search needs
-
-shared-slice-read-field-of : tie.Need-shared-slice-read-field-of
-shared-slice-read-field-of c = search needs
-
-field-of-requires : tie.Need-field-of-requires
-field-of-requires c κs = search needs
-
-has-mode-requires : tie.Need-has-mode-requires
-has-mode-requires c κs = search needs
-
 mul-result : tie.Need-mul-result
 mul-result c =
     let b7 = c .before .before .before .before .before .before .before in
@@ -56,10 +44,10 @@ pub ex-part-spec : {M : Type 1} → statement M
 ex-part-spec =
     tie.close
     (tie.spec
-    mul-field-of
-    shared-slice-read-field-of
-    field-of-requires
-    has-mode-requires
+    (λ c. search needs)
+    (λ c. search needs)
+    (λ c κs. search needs)
+    (λ c κs. search needs)
     mul-result
     add-result
     mul-result-2

@@ -14,18 +14,6 @@ Inv-loop ms ln tw w f k acc₀ i₀ acc i = Joined (λ j t. exTrue ms ln f j t) 
 abbrev μ-loop : tie.MeasureT-loop
 μ-loop ms ln tw w f k acc₀ i₀ acc i = length ms - i
 
-loop-holds : tie.Need-loop-holds Inv-loop μ-loop
-loop-holds c = join-start
-
-ex-part-requires : tie.Need-ex-part-requires Inv-loop μ-loop
-ex-part-requires c κs = search needs
-
-add-i : tie.Need-add-i Inv-loop μ-loop
-add-i c = search needs
-
-loop-less : tie.Need-loop-less Inv-loop μ-loop
-loop-less c = search needs
-
 loop-again : tie.Need-loop-again Inv-loop μ-loop
 loop-again c = join-on (c .before .before .loop .inv) (c .before .loop-test .taken) (c .ex-part .ensures)
 
@@ -36,4 +24,4 @@ returns c = join-end (c .before .loop .inv) (c .loop-test .left)
 pub ex-word-spec : {M : Type 1} → statement M
 ex-word-spec =
     tie.close
-    (tie.spec Inv-loop μ-loop loop-holds ex-part-requires add-i loop-less loop-again returns)
+    (tie.spec Inv-loop μ-loop (λ c. join-start) (λ c κs. search needs) (λ c. search needs) (λ c. search needs) loop-again returns)

@@ -5,19 +5,10 @@ use borrow.Author.Needs.{needs}
 use Rattle.needs.proofs.extra_word.Statement.{statement}
 use Rattle.needs.proofs.extra_word.Tie as tie
 
-sub-f : tie.Need-sub-f
-sub-f c = search needs
-
 returns : tie.Need-returns
 returns c =
     let b4 = c .before .before .before .before in
     word-all (b4 .args .ms .now) (b4 .args .ln .now) (b4 .args .e) (b4 .args .k) (b4 .pre .1 .0) (c .if1 .taken)
-
-has-mode-requires : tie.Need-has-mode-requires
-has-mode-requires c κs = search needs
-
-ex-word-requires : tie.Need-ex-word-requires
-ex-word-requires c κs = search needs
 
 returns-2 : tie.Need-returns-2
 returns-2 c =
@@ -31,4 +22,4 @@ returns-3 c =
 
 pub extra-word-spec : {M : Type 1} → statement M
 extra-word-spec =
-    tie.close (tie.spec sub-f returns has-mode-requires ex-word-requires returns-2 returns-3)
+    tie.close (tie.spec (λ c. search needs) returns (λ c κs. search needs) (λ c κs. search needs) returns-2 returns-3)

@@ -15,9 +15,6 @@ Inv-loop ms ln tw₀ w a e k₀ tw k = Filled (λ j t. inBlock ms ln j t) w (len
 abbrev μ-loop : tie.MeasureT-loop
 μ-loop ms ln tw₀ w a e k₀ tw k = w - k
 
-loop-holds : tie.Need-loop-holds Inv-loop μ-loop
-loop-holds c = blocks-open (c .before .before .before .pre .0 .0) (c .before .before .before .pre .1 .1)
-
 extra-word-requires : tie.Need-extra-word-requires Inv-loop μ-loop
 extra-word-requires c κs =
     let b2 = c .before .before in
@@ -48,20 +45,11 @@ slice-write-tw c =
     let b7 = b3 .before .before .before .before in
     omega (arith, fill-at (b3 .loop .inv) (b7 .pre .1 .1) (c .before .before .loop-test .taken))
 
-add-k : tie.Need-add-k Inv-loop μ-loop
-add-k c = search needs
-
-loop-less : tie.Need-loop-less Inv-loop μ-loop
-loop-less c = search needs
-
 loop-again : tie.Need-loop-again Inv-loop μ-loop
 loop-again c =
     let b3 = c .before .before .before in
     let b7 = b3 .before .before .before .before in
     fill-word (b3 .loop .inv) (b7 .pre .1 .1) (c .before .before .loop-test .taken) (c .extra-word .ensures)
-
-same-length : tie.Need-same-length Inv-loop μ-loop
-same-length c = c .before .loop .inv .long
 
 returns : tie.Need-returns Inv-loop μ-loop
 returns c = blocks-shut (c .before .loop .inv) (c .before .before .before .before .before .pre .1 .1) (c .loop-test .left)
@@ -72,14 +60,14 @@ extra-words-spec =
     (tie.spec
     Inv-loop
     μ-loop
-    loop-holds
+    (λ c. blocks-open (c .before .before .before .pre .0 .0) (c .before .before .before .pre .1 .1))
     extra-word-requires
     mul-at
     add-at
     mul-tw
     slice-write-tw
-    add-k
-    loop-less
+    (λ c. search needs)
+    (λ c. search needs)
     loop-again
-    same-length
+    (λ c. c .before .loop .inv .long)
     returns)

@@ -6,9 +6,6 @@ use borrow.Author.Needs.{needs}
 use Rattle.needs.proofs.field_need.Statement.{statement}
 use Rattle.needs.proofs.field_need.Tie as tie
 
-shl-m : tie.Need-shl-m
-shl-m c = search needs
-
 mul-result : tie.Need-mul-result
 mul-result c =
     let e = shl-one (c .args .f) (omega arith) in
@@ -21,23 +18,11 @@ add-result c =
     let p = pow-small (c .args .f) (c .pre .1) in
     omega arith
 
-add-result-2 : tie.Need-add-result-2
-add-result-2 c = search needs
-
-mul-result-2 : tie.Need-mul-result-2
-mul-result-2 c = search needs
-
 add-result-3 : tie.Need-add-result-3
 add-result-3 c =
     let e = shl-one (c .args .f) (omega arith) in
     let p = pow-small (c .args .f) (c .pre .1) in
     omega arith
-
-add-result-4 : tie.Need-add-result-4
-add-result-4 c = search needs
-
-mul-result-3 : tie.Need-mul-result-3
-mul-result-3 c = search needs
 
 add-result-5 : tie.Need-add-result-5
 add-result-5 c =
@@ -55,13 +40,13 @@ pub field-need-spec : {M : Type 1} → statement M
 field-need-spec =
     tie.close
     (tie.spec
-    shl-m
+    (λ c. search needs)
     mul-result
     add-result
-    add-result-2
-    mul-result-2
+    (λ c. search needs)
+    (λ c. search needs)
     add-result-3
-    add-result-4
-    mul-result-3
+    (λ c. search needs)
+    (λ c. search needs)
     add-result-5
     returns)

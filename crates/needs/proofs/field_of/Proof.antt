@@ -5,17 +5,8 @@ use borrow.Author.Needs.{needs}
 use Rattle.needs.proofs.field_of.Statement.{statement}
 use Rattle.needs.proofs.field_of.Tie as tie
 
-tag-requires : tie.Need-tag-requires
-tag-requires c κs = search needs
-
 returns : tie.Need-returns
 returns c = field-off _ (λ e. c .if1 .taken (c .before .tag .ensures ∙ e))
-
-arg-requires : tie.Need-arg-requires
-arg-requires c κs = search needs
-
-mode-of-requires : tie.Need-mode-of-requires
-mode-of-requires c κs = search needs
 
 returns-2 : tie.Need-returns-2
 returns-2 c =
@@ -29,4 +20,4 @@ returns-3 c =
 
 pub field-of-spec : {M : Type 1} → statement M
 field-of-spec =
-    tie.close (tie.spec tag-requires returns arg-requires mode-of-requires returns-2 returns-3)
+    tie.close (tie.spec (λ c κs. search needs) returns (λ c κs. search needs) (λ c κs. search needs) returns-2 returns-3)

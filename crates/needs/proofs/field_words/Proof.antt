@@ -13,15 +13,6 @@ Inv-loop ms ln tw₀ w a end e₀ tw e = BlocksSoFar ms ln w tw₀ tw e
 abbrev μ-loop : tie.MeasureT-loop
 μ-loop ms ln tw₀ w a end e₀ tw e = (length ms + 9) - e
 
-ex-fields-requires : tie.Need-ex-fields-requires Inv-loop μ-loop
-ex-fields-requires c κs = search needs
-
-add-end : tie.Need-add-end Inv-loop μ-loop
-add-end c = search needs
-
-loop-holds : tie.Need-loop-holds Inv-loop μ-loop
-loop-holds c = blocks-start (c .before .before .before .before .pre .0) (c .before .before .before .before .pre .1 .0)
-
 extra-words-requires : tie.Need-extra-words-requires Inv-loop μ-loop
 extra-words-requires c κs =
     let b2 = c .before .before in
@@ -43,9 +34,6 @@ loop-again c =
     let b5 = b2 .before .before .before in
     blocks-on (b5 .loop .inv) (b2 .before .before .loop-test .taken) (b2 .extra-words .kept .1 .1 .0) (b2 .extra-words .ensures)
 
-same-length : tie.Need-same-length Inv-loop μ-loop
-same-length c = c .before .loop .inv .long
-
 returns : tie.Need-returns Inv-loop μ-loop
 returns c =
     let g = c .before .loop .inv in
@@ -57,12 +45,12 @@ field-words-spec =
     (tie.spec
     Inv-loop
     μ-loop
-    ex-fields-requires
-    add-end
-    loop-holds
+    (λ c κs. search needs)
+    (λ c. search needs)
+    (λ c. blocks-start (c .before .before .before .before .pre .0) (c .before .before .before .before .pre .1 .0))
     extra-words-requires
     add-e
     loop-less
     loop-again
-    same-length
+    (λ c. c .before .loop .inv .long)
     returns)

@@ -12,18 +12,6 @@ Inv-loop ms ns₀ a n r₀ f₀ ns r f = Going ms ns₀ ns f 0 r
 abbrev μ-loop : tie.MeasureT-loop
 μ-loop ms ns₀ a n r₀ f₀ ns r f = 8 - f
 
-ex-fields-requires : tie.Need-ex-fields-requires Inv-loop μ-loop
-ex-fields-requires c κs = search needs
-
-loop-holds : tie.Need-loop-holds Inv-loop μ-loop
-loop-holds c = going-start _ _
-
-field-need-requires : tie.Need-field-need-requires Inv-loop μ-loop
-field-need-requires c κs = search needs
-
-has-mode-requires : tie.Need-has-mode-requires Inv-loop μ-loop
-has-mode-requires c κs = search needs
-
 push-if-requires : tie.Need-push-if-requires Inv-loop μ-loop
 push-if-requires c κs =
     let b4 = c .before .before .before .before in
@@ -31,21 +19,12 @@ push-if-requires c κs =
     let h = b4 .before .before .before .before .pre .1 in
     going-room (b4 .loop .inv) (omega arith)
 
-add-f : tie.Need-add-f Inv-loop μ-loop
-add-f c = search needs
-
-loop-less : tie.Need-loop-less Inv-loop μ-loop
-loop-less c = search needs
-
 loop-again : tie.Need-loop-again Inv-loop μ-loop
 loop-again c =
     let b7 = c .before .before .before .before .before .before .before in
     let l = c .before .before .before .before .before .before .loop-test .taken in
     let h = b7 .before .before .before .before .pre .1 in
     field-on (b7 .loop .inv) (going-room (b7 .loop .inv) (omega arith)) (c .before .before .push-if .ensures) l (b7 .before .ex-fields .ensures) (c .before .before .before .before .has-mode .ensures) (c .before .before .before .before .before .field-need .ensures)
-
-same-length : tie.Need-same-length Inv-loop μ-loop
-same-length c = c .before .loop .inv .long
 
 returns : tie.Need-returns Inv-loop μ-loop
 returns c = fields-done (c .before .loop .inv) (c .loop-test .left)
@@ -56,13 +35,13 @@ list-fields-spec =
     (tie.spec
     Inv-loop
     μ-loop
-    ex-fields-requires
-    loop-holds
-    field-need-requires
-    has-mode-requires
+    (λ c κs. search needs)
+    (λ c. going-start _ _)
+    (λ c κs. search needs)
+    (λ c κs. search needs)
     push-if-requires
-    add-f
-    loop-less
+    (λ c. search needs)
+    (λ c. search needs)
     loop-again
-    same-length
+    (λ c. c .before .loop .inv .long)
     returns)

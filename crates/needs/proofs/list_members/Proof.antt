@@ -13,21 +13,6 @@ Inv-loop ms ns₀ r s₀ i₀ ns s i = Going ms ns₀ ns 8 i s
 abbrev μ-loop : tie.MeasureT-loop
 μ-loop ms ns₀ r s₀ i₀ ns s i = length ms - i
 
-loop-holds : tie.Need-loop-holds Inv-loop μ-loop
-loop-holds c = going-from (c .before .before .pre .1)
-
-mul-x : tie.Need-mul-x Inv-loop μ-loop
-mul-x c = search needs
-
-shared-slice-read-x : tie.Need-shared-slice-read-x Inv-loop μ-loop
-shared-slice-read-x c = search needs
-
-need-of-requires : tie.Need-need-of-requires Inv-loop μ-loop
-need-of-requires c κs = search needs
-
-asks-requires : tie.Need-asks-requires Inv-loop μ-loop
-asks-requires c κs = search needs
-
 push-if-requires : tie.Need-push-if-requires Inv-loop μ-loop
 push-if-requires c κs =
     let b5 = c .before .before .before .before .before in
@@ -35,21 +20,12 @@ push-if-requires c κs =
     let h = b5 .before .before .before .pre .0 .1 in
     going-room (b5 .loop .inv) (omega arith)
 
-add-i : tie.Need-add-i Inv-loop μ-loop
-add-i c = search needs
-
-loop-less : tie.Need-loop-less Inv-loop μ-loop
-loop-less c = search needs
-
 loop-again : tie.Need-loop-again Inv-loop μ-loop
 loop-again c =
     let b8 = c .before .before .before .before .before .before .before .before in
     let l = c .before .before .before .before .before .before .before .loop-test .taken in
     let h = b8 .before .before .before .pre .0 .1 in
     member-on (b8 .loop .inv) (going-room (b8 .loop .inv) (omega arith)) (c .before .before .push-if .ensures) l (c .before .before .before .before .asks .ensures) (c .before .before .before .before .before .need-of .ensures)
-
-same-length : tie.Need-same-length Inv-loop μ-loop
-same-length c = c .before .loop .inv .long
 
 returns : tie.Need-returns Inv-loop μ-loop
 returns c = members-done (c .before .loop .inv) (c .loop-test .left)
@@ -60,14 +36,14 @@ list-members-spec =
     (tie.spec
     Inv-loop
     μ-loop
-    loop-holds
-    mul-x
-    shared-slice-read-x
-    need-of-requires
-    asks-requires
+    (λ c. going-from (c .before .before .pre .1))
+    (λ c. search needs)
+    (λ c. search needs)
+    (λ c κs. search needs)
+    (λ c κs. search needs)
     push-if-requires
-    add-i
-    loop-less
+    (λ c. search needs)
+    (λ c. search needs)
     loop-again
-    same-length
+    (λ c. c .before .loop .inv .long)
     returns)

@@ -7,15 +7,6 @@ use borrow.Author.Needs.{needs}
 use Rattle.needs.proofs.list_needs.Statement.{statement}
 use Rattle.needs.proofs.list_needs.Tie as tie
 
-list-fields-requires : tie.Need-list-fields-requires
-list-fields-requires c κs = search needs
-
-list-members-requires : tie.Need-list-members-requires
-list-members-requires c κs = search needs
-
-same-length : tie.Need-same-length
-same-length c = search needs
-
 returns : tie.Need-returns
 returns c =
     let b2 = c .before .before in
@@ -29,4 +20,4 @@ returns c =
 
 pub list-needs-spec : {M : Type 1} → statement M
 list-needs-spec =
-    tie.close (tie.spec list-fields-requires list-members-requires same-length returns)
+    tie.close (tie.spec (λ c κs. search needs) (λ c κs. search needs) (λ c. search needs) returns)

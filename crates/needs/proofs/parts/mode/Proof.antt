@@ -6,14 +6,8 @@ use lib.Count.{trailingZeros, trailing-le}
 use Rattle.needs.proofs.parts.mode.Statement.{statement}
 use Rattle.needs.proofs.parts.mode.Tie as tie
 
-arg-requires : tie.Need-arg-requires
-arg-requires c κs = search needs
-
-cast-result : tie.Need-cast-result
-cast-result c = omega (arith, trailing-le 64 (c .arg .result))
-
 returns : tie.Need-returns
 returns c = ap (trailingZeros 64) (c .arg .ensures)
 
 pub mode-spec : {M : Type 1} → statement M
-mode-spec = tie.close (tie.spec arg-requires cast-result returns)
+mode-spec = tie.close (tie.spec (λ c κs. search needs) (λ c. omega (arith, trailing-le 64 (c .arg .result))) returns)

@@ -4,20 +4,17 @@ use borrow.Author.Needs.{needs}
 use Rattle.tableau.proofs.eliminate.follow.Statement.{statement}
 use Rattle.tableau.proofs.eliminate.follow.Tie as tie
 
--- src/eliminate.rt:58:9
 along-requires : tie.Need-along-requires
 along-requires c κs =
     let b6 = c .before .before .before .before .before .before in
     among-mode (b6 .pre .0 .1 .1 .2) (b6 .pre .0 .1 .0)
 
--- src/eliminate.rt:59:9
 returns : tie.Need-returns
 returns c =
     let b1 = c .before in
     let b8 = b1 .before .before .before .before .before .before .before in
     λ t l. follow-off (b8 .args .a) (b8 .args .x) _ (b1 .along .ensures) (c .if1 .taken) _ _
 
--- src/eliminate.rt:61:5
 confine-linked-requires : tie.Need-confine-linked-requires
 confine-linked-requires c κs =
     let b3 = c .before .before .before in
@@ -25,19 +22,6 @@ confine-linked-requires c κs =
     let b11 = b4 .before .before .before .before .before .before .before in
     (let r = b11 .pre .0 .1 .1 .2 in let q = among-blocks r (b11 .pre .0 .1 .0) in let m = along-mode (b11 .args .a) (b11 .args .x) _ (b4 .along .ensures) (b3 .if1 .left) (among-mode r (b11 .pre .0 .1 .0)) in ((q .0, q .1, r .links .room, r .small, m), (r .links .refuse _ m, (b11 .pre .1 .1, b11 .pre .1 .2, b11 .pre .1 .3, b11 .pre .1 .0))))
 
--- src/eliminate.rt:43:1
-same-length : tie.Need-same-length
-same-length c = search needs
-
--- src/eliminate.rt:43:1
-same-length-2 : tie.Need-same-length-2
-same-length-2 c = search needs
-
--- src/eliminate.rt:43:1
-same-length-3 : tie.Need-same-length-3
-same-length-3 c = search needs
-
--- src/eliminate.rt:43:1
 returns-2 : tie.Need-returns-2
 returns-2 c =
     let b6 = c .before .before .before .before .before .before in
@@ -53,7 +37,7 @@ follow-spec =
     along-requires
     returns
     confine-linked-requires
-    same-length
-    same-length-2
-    same-length-3
+    (λ c. search needs)
+    (λ c. search needs)
+    (λ c. search needs)
     returns-2)

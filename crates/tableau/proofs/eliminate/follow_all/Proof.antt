@@ -17,19 +17,6 @@ Inv-loop ns tw cw w a u dst₀ v₀ rest₀ j₀ dst v rest j = Followed (λ k t
 abbrev μ-loop : tie.MeasureT-loop
 μ-loop ns tw cw w a u dst₀ v₀ rest₀ j₀ dst v rest j = length ns - j
 
--- src/eliminate.rt:81:5
-loop-holds : tie.Need-loop-holds Inv-loop μ-loop
-loop-holds c = all-start
-
--- src/eliminate.rt:82:27
-mul-follow : tie.Need-mul-follow Inv-loop μ-loop
-mul-follow c = search needs
-
--- src/eliminate.rt:82:27
-shared-slice-read-follow : tie.Need-shared-slice-read-follow Inv-loop μ-loop
-shared-slice-read-follow c = search needs
-
--- src/eliminate.rt:82:9
 follow-requires : tie.Need-follow-requires Inv-loop μ-loop
 follow-requires c κs =
     let b4 = c .before .before .before .before in
@@ -37,19 +24,16 @@ follow-requires c κs =
     let b13 = b5 .before .before .before .before .before .before .before .before in
     (((b13 .args .ns .now), (((_, b4 .loop-test .taken, refl)), b13 .pre .0)), (b13 .pre .1 .0, (let l = b5 .loop .inv .long in let h = b13 .pre .1 .1 in omega arith), (let l = b5 .loop .inv .long-v in let h = b13 .pre .1 .2 in omega arith), (let l = b5 .loop .inv .long-rest in let h = b13 .pre .1 .3 in omega arith)))
 
--- src/eliminate.rt:83:9
 add-j : tie.Need-add-j Inv-loop μ-loop
 add-j c =
     let b11 = c .before .before .before .before .before .before .before .before .before .before .before in
     omega (arith, b11 .loop-test .taken)
 
--- src/eliminate.rt:81:5
 loop-less : tie.Need-loop-less Inv-loop μ-loop
 loop-less c =
     let b11 = c .before .before .before .before .before .before .before .before .before .before .before in
     omega (arith, b11 .loop-test .taken)
 
--- src/eliminate.rt:81:5
 loop-again : tie.Need-loop-again Inv-loop μ-loop
 loop-again c =
     let b6 = c .before .before .before .before .before .before in
@@ -57,25 +41,21 @@ loop-again c =
     let b12 = b11 .before in
     all-on (b12 .loop .inv) _ _ _ (b11 .loop-test .taken) (b6 .follow .kept .1 .1 .1 .1 .1 .1 .0) (b6 .follow .kept .1 .1 .1 .1 .1 .1 .1 .0) (b6 .follow .kept .1 .1 .1 .1 .1 .1 .1 .1 .0) (b6 .follow .ensures)
 
--- src/eliminate.rt:65:1
 same-length : tie.Need-same-length Inv-loop μ-loop
 same-length c =
     let b1 = c .before in
     b1 .loop .inv .long
 
--- src/eliminate.rt:65:1
 same-length-2 : tie.Need-same-length-2 Inv-loop μ-loop
 same-length-2 c =
     let b1 = c .before in
     b1 .loop .inv .long-v
 
--- src/eliminate.rt:65:1
 same-length-3 : tie.Need-same-length-3 Inv-loop μ-loop
 same-length-3 c =
     let b1 = c .before in
     b1 .loop .inv .long-rest
 
--- src/eliminate.rt:65:1
 returns : tie.Need-returns Inv-loop μ-loop
 unfolding hasNexts
 returns c =
@@ -88,9 +68,9 @@ follow-all-spec =
     (tie.spec
     Inv-loop
     μ-loop
-    loop-holds
-    mul-follow
-    shared-slice-read-follow
+    (λ c. all-start)
+    (λ c. search needs)
+    (λ c. search needs)
     follow-requires
     add-j
     loop-less

@@ -14,28 +14,17 @@ Inv-loop ns tw cw w src dst₀ u₀ todo₀ v₀ rest₀ j₀ dst u todo v rest 
 abbrev μ-loop : tie.MeasureT-loop
 μ-loop ns tw cw w src dst₀ u₀ todo₀ v₀ rest₀ j₀ dst u todo v rest j = length ns - j
 
--- src/eliminate.rt:191:5
 copy-requires : tie.Need-copy-requires Inv-loop μ-loop
 copy-requires c κs =
     let b10 = c .before .before .before .before .before .before .before .before .before .before in
     (b10 .pre .1 .1, b10 .pre .1 .0)
 
--- src/eliminate.rt:193:5
 loop-holds : tie.Need-loop-holds Inv-loop μ-loop
 loop-holds c =
     let b2 = c .before .before in
     let b13 = b2 .before .before .before .before .before .before .before .before .before .before .before in
     round-start (b13 .args .dst .now) (b13 .pre .1 .1) (b2 .copy .ensures)
 
--- src/eliminate.rt:194:39
-mul-eliminate-need : tie.Need-mul-eliminate-need Inv-loop μ-loop
-mul-eliminate-need c = search needs
-
--- src/eliminate.rt:194:39
-shared-slice-read-eliminate-need : tie.Need-shared-slice-read-eliminate-need Inv-loop μ-loop
-shared-slice-read-eliminate-need c = search needs
-
--- src/eliminate.rt:194:9
 eliminate-need-requires : tie.Need-eliminate-need-requires Inv-loop μ-loop
 eliminate-need-requires c κs =
     let b6 = c .before .before .before .before .before .before in
@@ -44,19 +33,16 @@ eliminate-need-requires c κs =
     let b21 = b10 .before .before .before .before .before .before .before .before .before .before .before in
     (((_, b6 .loop-test .taken, refl), b21 .pre .0), (b21 .pre .1 .0, (let l = b7 .loop .inv .long in let h = b21 .pre .1 .1 in let k = b10 .copy .kept .0 in omega arith), (let l = b7 .loop .inv .long-u in let h = b21 .pre .1 .2 in omega arith), (let l = b7 .loop .inv .long-todo in let h = b21 .pre .1 .3 in omega arith), (let l = b7 .loop .inv .long-v in let h = b21 .pre .1 .4 in omega arith), (let l = b7 .loop .inv .long-rest in let h = b21 .pre .1 .5 in omega arith)))
 
--- src/eliminate.rt:195:9
 add-j : tie.Need-add-j Inv-loop μ-loop
 add-j c =
     let b17 = c .before .before .before .before .before .before .before .before .before .before .before .before .before .before .before .before .before in
     omega (arith, b17 .loop-test .taken)
 
--- src/eliminate.rt:193:5
 loop-less : tie.Need-loop-less Inv-loop μ-loop
 loop-less c =
     let b17 = c .before .before .before .before .before .before .before .before .before .before .before .before .before .before .before .before .before in
     omega (arith, b17 .loop-test .taken)
 
--- src/eliminate.rt:193:5
 loop-again : tie.Need-loop-again Inv-loop μ-loop
 loop-again c =
     let b10 = c .before .before .before .before .before .before .before .before .before .before in
@@ -66,7 +52,6 @@ loop-again c =
     let b32 = b21 .before .before .before .before .before .before .before .before .before .before .before in
     round-on (b18 .loop .inv) (let k = b21 .copy .kept .0 in let h = b32 .pre .1 .1 in omega arith) _ _ _ _ _ (b17 .loop-test .taken) (b10 .eliminate-need .kept .1 .1 .1 .1 .1 .1 .0) (b10 .eliminate-need .kept .1 .1 .1 .1 .1 .1 .1 .0) (b10 .eliminate-need .kept .1 .1 .1 .1 .1 .1 .1 .1 .0) (b10 .eliminate-need .kept .1 .1 .1 .1 .1 .1 .1 .1 .1 .0) (b10 .eliminate-need .kept .1 .1 .1 .1 .1 .1 .1 .1 .1 .1 .0) (b10 .eliminate-need .ensures)
 
--- src/eliminate.rt:197:5
 equal-requires : tie.Need-equal-requires Inv-loop μ-loop
 equal-requires c κs =
     let b2 = c .before .before in
@@ -74,38 +59,32 @@ equal-requires c κs =
     let b16 = b5 .before .before .before .before .before .before .before .before .before .before .before in
     (b16 .pre .1 .0, (let l = b2 .loop .inv .long in let h = b16 .pre .1 .1 in let k = b5 .copy .kept .0 in omega arith))
 
--- src/eliminate.rt:174:1
 same-length : tie.Need-same-length Inv-loop μ-loop
 same-length c =
     let b3 = c .before .before .before in
     let b6 = b3 .before .before .before in
     b3 .loop .inv .long ∙ b6 .copy .kept .0
 
--- src/eliminate.rt:174:1
 same-length-2 : tie.Need-same-length-2 Inv-loop μ-loop
 same-length-2 c =
     let b3 = c .before .before .before in
     b3 .loop .inv .long-u
 
--- src/eliminate.rt:174:1
 same-length-3 : tie.Need-same-length-3 Inv-loop μ-loop
 same-length-3 c =
     let b3 = c .before .before .before in
     b3 .loop .inv .long-todo
 
--- src/eliminate.rt:174:1
 same-length-4 : tie.Need-same-length-4 Inv-loop μ-loop
 same-length-4 c =
     let b3 = c .before .before .before in
     b3 .loop .inv .long-v
 
--- src/eliminate.rt:174:1
 same-length-5 : tie.Need-same-length-5 Inv-loop μ-loop
 same-length-5 c =
     let b3 = c .before .before .before in
     b3 .loop .inv .long-rest
 
--- src/eliminate.rt:174:1
 returns : tie.Need-returns Inv-loop μ-loop
 returns c =
     let b2 = c .before .before in
@@ -122,8 +101,8 @@ round-spec =
     μ-loop
     copy-requires
     loop-holds
-    mul-eliminate-need
-    shared-slice-read-eliminate-need
+    (λ c. search needs)
+    (λ c. search needs)
     eliminate-need-requires
     add-j
     loop-less

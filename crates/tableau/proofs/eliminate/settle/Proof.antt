@@ -19,28 +19,24 @@ Inv-loop ns tw cw w first₀ second₀ u₀ todo₀ v₀ rest₀ n₀ first seco
 abbrev μ-loop : tie.MeasureT-loop
 μ-loop ns tw cw w first₀ second₀ u₀ todo₀ v₀ rest₀ n₀ first second u todo v rest n = countBelow (w * 64) (member first)
 
--- src/eliminate.rt:221:5
 loop-holds : tie.Need-loop-holds Inv-loop μ-loop
 loop-holds c =
     let b5 = c .before .before .before .before .before in
     let b9 = b5 .before .before .before .before in
     ((λ ms ln r. before-start (b9 .pre .1 .0) (b9 .pre .1 .1) (λ k l. b5 .slice-known .given k .fits)), refl, refl, refl, refl)
 
--- src/eliminate.rt:222:12
 round-requires : tie.Need-round-requires Inv-loop μ-loop
 round-requires c κs =
     let b6 = c .before .before .before .before .before .before in
     let b16 = b6 .before .before .before .before .before .before .before .before .before .before in
     (let r = b16 .pre .0 .2 in let ms = b16 .pre .0 .0 in let ln = b16 .pre .0 .1 in let b = b6 .loop .inv .0 ms ln r in (b16 .pre .0, ((let l = b .long in let h = b16 .pre .1 .0 in omega arith), (let l = b .long′ in let h = b16 .pre .1 .1 in omega arith), (let l = b6 .loop .inv .1 in let h = b16 .pre .1 .2 in omega arith), (let l = b6 .loop .inv .2 in let h = b16 .pre .1 .3 in omega arith), (let l = b6 .loop .inv .3 in let h = b16 .pre .1 .4 in omega arith), (let l = b6 .loop .inv .4 in let h = b16 .pre .1 .5 in omega arith))))
 
--- src/eliminate.rt:223:13
 same-length : tie.Need-same-length Inv-loop μ-loop
 same-length c =
     let b18 = c .before .before .before .before .before .before .before .before .before .before .before .before .before .before .before .before .before .before in
     let b28 = b18 .before .before .before .before .before .before .before .before .before .before in
     b18 .loop .inv .0 _ _ (b28 .pre .0 .2) .long
 
--- src/eliminate.rt:223:13
 same-length-2 : tie.Need-same-length-2 Inv-loop μ-loop
 same-length-2 c =
     let b11 = c .before .before .before .before .before .before .before .before .before .before .before in
@@ -48,42 +44,36 @@ same-length-2 c =
     let b28 = b18 .before .before .before .before .before .before .before .before .before .before in
     b11 .round .kept .1 .1 .1 .1 .1 .0 ∙ b18 .loop .inv .0 _ _ (b28 .pre .0 .2) .long′
 
--- src/eliminate.rt:223:13
 same-length-3 : tie.Need-same-length-3 Inv-loop μ-loop
 same-length-3 c =
     let b11 = c .before .before .before .before .before .before .before .before .before .before .before in
     let b18 = b11 .before .before .before .before .before .before .before in
     b11 .round .kept .1 .1 .1 .1 .1 .1 .0 ∙ b18 .loop .inv .1
 
--- src/eliminate.rt:223:13
 same-length-4 : tie.Need-same-length-4 Inv-loop μ-loop
 same-length-4 c =
     let b11 = c .before .before .before .before .before .before .before .before .before .before .before in
     let b18 = b11 .before .before .before .before .before .before .before in
     b11 .round .kept .1 .1 .1 .1 .1 .1 .1 .0 ∙ b18 .loop .inv .2
 
--- src/eliminate.rt:223:13
 same-length-5 : tie.Need-same-length-5 Inv-loop μ-loop
 same-length-5 c =
     let b11 = c .before .before .before .before .before .before .before .before .before .before .before in
     let b18 = b11 .before .before .before .before .before .before .before in
     b11 .round .kept .1 .1 .1 .1 .1 .1 .1 .1 .0 ∙ b18 .loop .inv .3
 
--- src/eliminate.rt:223:13
 same-length-6 : tie.Need-same-length-6 Inv-loop μ-loop
 same-length-6 c =
     let b11 = c .before .before .before .before .before .before .before .before .before .before .before in
     let b18 = b11 .before .before .before .before .before .before .before in
     b11 .round .kept .1 .1 .1 .1 .1 .1 .1 .1 .1 .0 ∙ b18 .loop .inv .4
 
--- src/eliminate.rt:223:13
 returns : tie.Need-returns Inv-loop μ-loop
 returns c =
     let b11 = c .before .before .before .before .before .before .before .before .before .before .before in
     let b18 = b11 .before .before .before .before .before .before .before in
     ((λ ms ln r. settled (b18 .loop .inv .0 ms ln r) _ (b11 .round .ensures .0 ms ln r) _ (b11 .round .ensures .1) (c .if1 .taken) .0), ((λ ms ln r. settled (b18 .loop .inv .0 ms ln r) _ (b11 .round .ensures .0 ms ln r) _ (b11 .round .ensures .1) (c .if1 .taken) .1), (λ ms ln r. settled (b18 .loop .inv .0 ms ln r) _ (b11 .round .ensures .0 ms ln r) _ (b11 .round .ensures .1) (c .if1 .taken) .2)))
 
--- src/eliminate.rt:225:9
 add-n : tie.Need-add-n Inv-loop μ-loop
 add-n c =
     let b11 = c .before .before .before .before .before .before .before .before .before .before .before in
@@ -91,7 +81,6 @@ add-n c =
     let b28 = b18 .before .before .before .before .before .before .before .before .before .before in
     (let r = b28 .pre .0 .2 in let ms = b28 .pre .0 .0 in let ln = b28 .pre .0 .1 in let b = b18 .loop .inv .0 ms ln r in let h = b .bound in let f = fewer b _ (b11 .round .ensures .0 ms ln r) _ (b11 .round .ensures .1) (c .if1 .left) in let s = r .small in omega arith)
 
--- src/eliminate.rt:226:12
 round-requires-2 : tie.Need-round-requires-2 Inv-loop μ-loop
 round-requires-2 c κs =
     let b17 = c .before .before .before .before .before .before .before .before .before .before .before .before .before .before .before .before .before in
@@ -99,7 +88,6 @@ round-requires-2 c κs =
     let b34 = b24 .before .before .before .before .before .before .before .before .before .before in
     (let r = b34 .pre .0 .2 in let ms = b34 .pre .0 .0 in let ln = b34 .pre .0 .1 in let b = b24 .loop .inv .0 ms ln r in (b34 .pre .0, ((let l = b .long′ in let h = b34 .pre .1 .1 in let k = b17 .round .kept .1 .1 .1 .1 .1 .0 in omega arith), (let l = b .long in let h = b34 .pre .1 .0 in omega arith), (let l = b24 .loop .inv .1 in let h = b34 .pre .1 .2 in let k = b17 .round .kept .1 .1 .1 .1 .1 .1 .0 in omega arith), (let l = b24 .loop .inv .2 in let h = b34 .pre .1 .3 in let k = b17 .round .kept .1 .1 .1 .1 .1 .1 .1 .0 in omega arith), (let l = b24 .loop .inv .3 in let h = b34 .pre .1 .4 in let k = b17 .round .kept .1 .1 .1 .1 .1 .1 .1 .1 .0 in omega arith), (let l = b24 .loop .inv .4 in let h = b34 .pre .1 .5 in let k = b17 .round .kept .1 .1 .1 .1 .1 .1 .1 .1 .1 .0 in omega arith))))
 
--- src/eliminate.rt:227:13
 same-length-7 : tie.Need-same-length-7 Inv-loop μ-loop
 same-length-7 c =
     let b11 = c .before .before .before .before .before .before .before .before .before .before .before in
@@ -107,7 +95,6 @@ same-length-7 c =
     let b46 = b36 .before .before .before .before .before .before .before .before .before .before in
     b11 .round2 .kept .1 .1 .1 .1 .1 .0 ∙ b36 .loop .inv .0 _ _ (b46 .pre .0 .2) .long
 
--- src/eliminate.rt:227:13
 same-length-8 : tie.Need-same-length-8 Inv-loop μ-loop
 same-length-8 c =
     let b29 = c .before .before .before .before .before .before .before .before .before .before .before .before .before .before .before .before .before .before .before .before .before .before .before .before .before .before .before .before .before in
@@ -115,7 +102,6 @@ same-length-8 c =
     let b46 = b36 .before .before .before .before .before .before .before .before .before .before in
     b29 .round .kept .1 .1 .1 .1 .1 .0 ∙ b36 .loop .inv .0 _ _ (b46 .pre .0 .2) .long′
 
--- src/eliminate.rt:227:13
 same-length-9 : tie.Need-same-length-9 Inv-loop μ-loop
 same-length-9 c =
     let b11 = c .before .before .before .before .before .before .before .before .before .before .before in
@@ -123,7 +109,6 @@ same-length-9 c =
     let b36 = b29 .before .before .before .before .before .before .before in
     b11 .round2 .kept .1 .1 .1 .1 .1 .1 .0 ∙ b29 .round .kept .1 .1 .1 .1 .1 .1 .0 ∙ b36 .loop .inv .1
 
--- src/eliminate.rt:227:13
 same-length-10 : tie.Need-same-length-10 Inv-loop μ-loop
 same-length-10 c =
     let b11 = c .before .before .before .before .before .before .before .before .before .before .before in
@@ -131,7 +116,6 @@ same-length-10 c =
     let b36 = b29 .before .before .before .before .before .before .before in
     b11 .round2 .kept .1 .1 .1 .1 .1 .1 .1 .0 ∙ b29 .round .kept .1 .1 .1 .1 .1 .1 .1 .0 ∙ b36 .loop .inv .2
 
--- src/eliminate.rt:227:13
 same-length-11 : tie.Need-same-length-11 Inv-loop μ-loop
 same-length-11 c =
     let b11 = c .before .before .before .before .before .before .before .before .before .before .before in
@@ -139,7 +123,6 @@ same-length-11 c =
     let b36 = b29 .before .before .before .before .before .before .before in
     b11 .round2 .kept .1 .1 .1 .1 .1 .1 .1 .1 .0 ∙ b29 .round .kept .1 .1 .1 .1 .1 .1 .1 .1 .0 ∙ b36 .loop .inv .3
 
--- src/eliminate.rt:227:13
 same-length-12 : tie.Need-same-length-12 Inv-loop μ-loop
 same-length-12 c =
     let b11 = c .before .before .before .before .before .before .before .before .before .before .before in
@@ -147,7 +130,6 @@ same-length-12 c =
     let b36 = b29 .before .before .before .before .before .before .before in
     b11 .round2 .kept .1 .1 .1 .1 .1 .1 .1 .1 .1 .0 ∙ b29 .round .kept .1 .1 .1 .1 .1 .1 .1 .1 .1 .0 ∙ b36 .loop .inv .4
 
--- src/eliminate.rt:227:13
 returns-2 : tie.Need-returns-2 Inv-loop μ-loop
 returns-2 c =
     let b11 = c .before .before .before .before .before .before .before .before .before .before .before in
@@ -156,7 +138,6 @@ returns-2 c =
     let b36 = b29 .before .before .before .before .before .before .before in
     ((λ ms ln r. settled (turned (b36 .loop .inv .0 ms ln r) _ (b29 .round .ensures .0 ms ln r) _ (b29 .round .ensures .1) (b18 .if1 .left)) _ (b11 .round2 .ensures .0 ms ln r) _ (b11 .round2 .ensures .1) (c .if2 .taken) .0), ((λ ms ln r. settled (turned (b36 .loop .inv .0 ms ln r) _ (b29 .round .ensures .0 ms ln r) _ (b29 .round .ensures .1) (b18 .if1 .left)) _ (b11 .round2 .ensures .0 ms ln r) _ (b11 .round2 .ensures .1) (c .if2 .taken) .2), (λ ms ln r. settled (turned (b36 .loop .inv .0 ms ln r) _ (b29 .round .ensures .0 ms ln r) _ (b29 .round .ensures .1) (b18 .if1 .left)) _ (b11 .round2 .ensures .0 ms ln r) _ (b11 .round2 .ensures .1) (c .if2 .taken) .1)))
 
--- src/eliminate.rt:229:9
 add-n-2 : tie.Need-add-n-2 Inv-loop μ-loop
 add-n-2 c =
     let b11 = c .before .before .before .before .before .before .before .before .before .before .before in
@@ -166,7 +147,6 @@ add-n-2 c =
     let b46 = b36 .before .before .before .before .before .before .before .before .before .before in
     (let r = b46 .pre .0 .2 in let ms = b46 .pre .0 .0 in let ln = b46 .pre .0 .1 in let b = (turned (b36 .loop .inv .0 ms ln r) _ (b29 .round .ensures .0 ms ln r) _ (b29 .round .ensures .1) (b18 .if1 .left)) in let h = b .bound in let f = fewer b _ (b11 .round2 .ensures .0 ms ln r) _ (b11 .round2 .ensures .1) (c .if2 .left) in let s = r .small in omega arith)
 
--- src/eliminate.rt:221:5
 loop-less : tie.Need-loop-less Inv-loop μ-loop
 loop-less c =
     let b11 = c .before .before .before .before .before .before .before .before .before .before .before in
@@ -176,7 +156,6 @@ loop-less c =
     let b46 = b36 .before .before .before .before .before .before .before .before .before .before in
     (let r = b46 .pre .0 .2 in let ms = b46 .pre .0 .0 in let ln = b46 .pre .0 .1 in let a = b36 .loop .inv .0 ms ln r in let b = (turned a _ (b29 .round .ensures .0 ms ln r) _ (b29 .round .ensures .1) (b18 .if1 .left)) in let f = fewer a _ (b29 .round .ensures .0 ms ln r) _ (b29 .round .ensures .1) (b18 .if1 .left) in let g = fewer b _ (b11 .round2 .ensures .0 ms ln r) _ (b11 .round2 .ensures .1) (c .if2 .left) in let x = count-now a in let y = count-now (turned b _ (b11 .round2 .ensures .0 ms ln r) _ (b11 .round2 .ensures .1) (c .if2 .left)) in omega arith)
 
--- src/eliminate.rt:221:5
 loop-again : tie.Need-loop-again Inv-loop μ-loop
 loop-again c =
     let b11 = c .before .before .before .before .before .before .before .before .before .before .before in

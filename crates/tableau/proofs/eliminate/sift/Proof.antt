@@ -7,33 +7,11 @@ use borrow.Author.Needs.{needs}
 use Rattle.tableau.proofs.eliminate.sift.Statement.{statement}
 use Rattle.tableau.proofs.eliminate.sift.Tie as tie
 
--- src/eliminate.rt:103:8
-tag-requires : tie.Need-tag-requires
-tag-requires c κs = search needs
-
--- src/eliminate.rt:104:39
-arg-requires : tie.Need-arg-requires
-arg-requires c κs = search needs
-
--- src/eliminate.rt:104:9
 step-requires : tie.Need-step-requires
 step-requires c κs =
     let b13 = c .before .before .before .before .before .before .before .before .before .before .before .before .before in
     ((b13 .pre .0 .2 .links .room, b13 .pre .0 .2 .small, arg-small _ _ (c .arg .ensures)), (b13 .pre .1 .1, b13 .pre .1 .2, b13 .pre .1 .3, b13 .pre .1 .0))
 
--- src/eliminate.rt:105:9
-same-length : tie.Need-same-length
-same-length c = search needs
-
--- src/eliminate.rt:105:9
-same-length-2 : tie.Need-same-length-2
-same-length-2 c = search needs
-
--- src/eliminate.rt:105:9
-same-length-3 : tie.Need-same-length-3
-same-length-3 c = search needs
-
--- src/eliminate.rt:105:9
 returns : tie.Need-returns
 returns c =
     let b6 = c .before .before .before .before .before .before in
@@ -43,29 +21,11 @@ returns c =
     let b20 = b12 .before .before .before .before .before .before .before .before in
     λ t l. b6 .step .ensures t l ∙ ap (λ z. member (b20 .args .todo .now) t && z) (wants-eu _ (b20 .args .tw .now) _ (b20 .args .ns .now) _ (b20 .args .x) t _ _ (b12 .tag .ensures) (b7 .arg .ensures) (b11 .if1 .taken))
 
--- src/eliminate.rt:107:31
-arg-requires-2 : tie.Need-arg-requires-2
-arg-requires-2 c κs = search needs
-
--- src/eliminate.rt:107:5
 follow-all-requires : tie.Need-follow-all-requires
 follow-all-requires c κs =
     let b13 = c .before .before .before .before .before .before .before .before .before .before .before .before .before in
     (b13 .pre .0, b13 .pre .1)
 
--- src/eliminate.rt:88:1
-same-length-4 : tie.Need-same-length-4
-same-length-4 c = search needs
-
--- src/eliminate.rt:88:1
-same-length-5 : tie.Need-same-length-5
-same-length-5 c = search needs
-
--- src/eliminate.rt:88:1
-same-length-6 : tie.Need-same-length-6
-same-length-6 c = search needs
-
--- src/eliminate.rt:88:1
 returns-2 : tie.Need-returns-2
 returns-2 c =
     let b6 = c .before .before .before .before .before .before in
@@ -79,16 +39,16 @@ pub sift-spec : {M : Type 1} → statement M
 sift-spec =
     tie.close
     (tie.spec
-    tag-requires
-    arg-requires
+    (λ c κs. search needs)
+    (λ c κs. search needs)
     step-requires
-    same-length
-    same-length-2
-    same-length-3
+    (λ c. search needs)
+    (λ c. search needs)
+    (λ c. search needs)
     returns
-    arg-requires-2
+    (λ c κs. search needs)
     follow-all-requires
-    same-length-4
-    same-length-5
-    same-length-6
+    (λ c. search needs)
+    (λ c. search needs)
+    (λ c. search needs)
     returns-2)
