@@ -1,4 +1,5 @@
-//! A set of types as words: type j is bit j mod 64 of word j div 64. W is 1, 2 or 4.
+//! A set of types as words: type j is bit j mod 64 of word j div 64. W is a power of two, 1 to 64. What a round does is always inlined: a set
+//! that is stored by words for a call and loaded as vectors costs more than the work on it.
 
 pub type Family<const W: usize> = [u64; W];
 
@@ -6,26 +7,55 @@ pub const fn none<const W: usize>() -> Family<W> {
     [0; W]
 }
 
-pub fn map<const W: usize>(a: &Family<W>, b: &Family<W>, f: impl Fn(u64, u64) -> u64) -> Family<W> {
-    std::array::from_fn(|k| f(a[k], b[k]))
+#[inline(always)]
+fn change<const W: usize>(a: &mut Family<W>, b: &Family<W>, f: impl Fn(u64, u64) -> u64) {
+    for (x, &y) in a.iter_mut().zip(b) {
+        *x = f(*x, y);
+    }
 }
 
+/// Of `a`, those stay that are in `b`.
+#[inline(always)]
+pub fn keep<const W: usize>(a: &mut Family<W>, b: &Family<W>) {
+    change(a, b, |x, y| x & y)
+}
+
+#[inline(always)]
+pub fn add<const W: usize>(a: &mut Family<W>, b: &Family<W>) {
+    change(a, b, |x, y| x | y)
+}
+
+#[inline(always)]
+pub fn remove<const W: usize>(a: &mut Family<W>, b: &Family<W>) {
+    change(a, b, |x, y| x & !y)
+}
+
+#[inline(always)]
 pub fn and<const W: usize>(a: &Family<W>, b: &Family<W>) -> Family<W> {
-    map(a, b, |x, y| x & y)
+    let mut types = *a;
+    keep(&mut types, b);
+    types
 }
 
+#[inline(always)]
 pub fn or<const W: usize>(a: &Family<W>, b: &Family<W>) -> Family<W> {
-    map(a, b, |x, y| x | y)
+    let mut types = *a;
+    add(&mut types, b);
+    types
 }
 
+#[inline(always)]
 pub fn less<const W: usize>(a: &Family<W>, b: &Family<W>) -> Family<W> {
-    map(a, b, |x, y| x & !y)
+    let mut types = *a;
+    remove(&mut types, b);
+    types
 }
 
 pub fn not<const W: usize>(a: &Family<W>) -> Family<W> {
     a.map(|x| !x)
 }
 
+#[inline(always)]
 pub fn is_empty<const W: usize>(a: &Family<W>) -> bool {
     a.iter().fold(0, |all, x| all | x) == 0
 }
@@ -38,6 +68,7 @@ pub fn size<const W: usize>(a: &Family<W>) -> u32 {
     a.iter().map(|x| x.count_ones()).sum()
 }
 
+#[inline(always)]
 pub fn first<const W: usize>(a: &Family<W>) -> Option<usize> {
     let k = a.iter().position(|&x| x != 0)?;
     Some(k * 64 + a[k].trailing_zeros() as usize)

@@ -13,6 +13,30 @@ use closure::Member;
 use sheet::Kind;
 use tableau::Tableau;
 
+/// How many places a lean and how many members a closure may have: 8 and 64 by document 01.
+#[derive(Clone, Copy)]
+pub struct Limits {
+    lean: usize,
+    closure: usize,
+}
+
+impl Limits {
+    /// A lean of 1 to 12 places, a closure of 16 to 128 members.
+    pub fn new(lean: usize, closure: usize) -> Option<Self> {
+        let right = (1..=12).contains(&lean) && (16..=128).contains(&closure);
+        right.then_some(Limits { lean, closure })
+    }
+}
+
+impl Default for Limits {
+    fn default() -> Self {
+        Limits {
+            lean: 8,
+            closure: 64,
+        }
+    }
+}
+
 /// Why a sheet is refused, by document 01's numbers.
 #[derive(Clone, Copy, PartialEq, Eq, Debug)]
 pub enum Refusal {
@@ -59,11 +83,15 @@ impl Reading {
 }
 
 pub fn read(bytes: &[u8]) -> Result<Reading, Refusal> {
+    read_within(bytes, Limits::default())
+}
+
+fn read_within(bytes: &[u8], limits: Limits) -> Result<Reading, Refusal> {
     let sheet = sheet::split(bytes)?;
     let formulas = formula::read(&sheet.formulas, &sheet.symbols)?;
-    let closure = closure::close(&formulas)?;
+    let closure = closure::close(&formulas, limits.closure)?;
     let members = closure.members;
-    let lean = closure::lean(&members, &sheet.symbols.letters)?;
+    let lean = closure::lean(&members, &sheet.symbols.letters, limits.lean)?;
     let named = |&place: &usize| match members[usize::from(lean[place])] {
         Member::Letter(letter) => sheet.symbols.kinds[usize::from(letter)] == Kind::Name,
         _ => false,
@@ -123,7 +151,6 @@ fn settled<const W: usize>(reading: &Reading, naming: u64) -> Table {
     }
 }
 
-/// What the program prints of a sheet.
 /// The standing types of one naming in document 02's order.
 pub fn list(bytes: &[u8], naming: u64) -> Result<Vec<u16>, Refusal> {
     let table = table(bytes, naming)?;
@@ -134,13 +161,23 @@ pub fn list(bytes: &[u8], naming: u64) -> Result<Vec<u16>, Refusal> {
     Ok(types)
 }
 
+/// What the program prints of a sheet.
 pub fn program(bytes: &[u8]) -> Vec<u8> {
-    match read(bytes) {
+    program_within(bytes, Limits::default())
+}
+
+/// The same under given limits.
+pub fn program_within(bytes: &[u8], limits: Limits) -> Vec<u8> {
+    match read_within(bytes, limits) {
         Err(refusal) => format!("refused {}\n", refusal as u8).into_bytes(),
         Ok(reading) => match reading.lean.len() {
             0..=6 => report::report::<1>(&reading),
             7 => report::report::<2>(&reading),
-            _ => report::report::<4>(&reading),
+            8 => report::report::<4>(&reading),
+            9 => report::report::<8>(&reading),
+            10 => report::report::<16>(&reading),
+            11 => report::report::<32>(&reading),
+            _ => report::report::<64>(&reading),
         },
     }
 }

@@ -47,7 +47,7 @@ fn push_verdict(out: &mut Vec<u8>, verdict: Verdict) {
     }
 }
 
-/// Decimal digits: a sheet has up to 4,096 rows of four numbers, where the formatting machinery would show.
+/// Decimal digits: a sheet has 16,384 rows of four numbers, and more under larger limits, where the formatting machinery would show.
 fn push_number(out: &mut Vec<u8>, number: u64) {
     let mut digits = [0; 20];
     let mut at = digits.len();

@@ -140,24 +140,26 @@ impl<const W: usize> Tableau<W> {
     fn round(&self, family: &Family<W>) -> Family<W> {
         let mut kept = *family;
         for ask in &self.asks {
-            kept = self.follow(&kept, family, ask);
+            self.follow(&mut kept, family, ask);
         }
         for until in &self.untils {
-            let holders = family::and(&kept, &self.truth[until.whole]);
-            let good = self.good(family, &holders, until);
-            kept = family::less(&kept, &family::less(&holders, &good));
+            let mut lacking = family::and(&kept, &self.truth[until.whole]);
+            let good = self.good(family, &lacking, until);
+            family::remove(&mut lacking, &good);
+            family::remove(&mut kept, &lacking);
         }
         kept
     }
 
-    /// Of some types, those that have not the need, or are linked along its mode to a type of `among` that is asked for.
-    fn follow(&self, types: &Family<W>, among: &Family<W>, ask: &Ask<W>) -> Family<W> {
-        let holders = family::and(types, &ask.holders);
-        if family::is_empty(&holders) {
-            return *types;
+    /// Of some types, those stay that have not the need, or are linked along its mode to a type of `among` that is asked for.
+    fn follow(&self, types: &mut Family<W>, among: &Family<W>, ask: &Ask<W>) {
+        let mut lacking = family::and(types, &ask.holders);
+        if family::is_empty(&lacking) {
+            return;
         }
-        let targets = family::and(among, &ask.body);
-        family::less(types, &self.ways[ask.mode].unlinked(&holders, &targets))
+        let mut targets = family::and(among, &ask.body);
+        self.ways[ask.mode].keep_unlinked(&mut lacking, &mut targets);
+        family::remove(types, &lacking);
     }
 
     /// Grows the types with the right operand by those with the left one that have what the until asks against them, until none
@@ -166,61 +168,64 @@ impl<const W: usize> Tableau<W> {
         let mut good = family::and(family, &self.truth[until.right]);
         let candidates = family::and(family, &self.truth[until.left]);
         while !family::is_empty(&family::less(holders, &good)) {
-            let rest = family::less(&candidates, &good);
-            let added = match until.every {
-                true => self.every_step(&rest, &good, until.modes),
-                false => self.some_step(&rest, &good, until.modes),
-            };
+            let mut added = family::less(&candidates, &good);
+            match until.every {
+                true => self.every_step(&mut added, &good, until.modes),
+                false => self.some_step(&mut added, &good, until.modes),
+            }
             if family::is_empty(&added) {
                 break;
             }
-            good = family::or(&good, &added);
+            family::add(&mut good, &added);
         }
         good
     }
 
-    /// Those linked by one of the modes to a type of `good`.
-    fn some_step(&self, types: &Family<W>, good: &Family<W>, modes: Modes) -> Family<W> {
+    /// Of some types, those stay that are linked by one of the modes to a type of `good`.
+    fn some_step(&self, types: &mut Family<W>, good: &Family<W>, modes: Modes) {
         let mut without = *types;
         let mut rest = modes;
         while rest != 0 {
-            without = self.ways[rest.trailing_zeros() as usize].unlinked(&without, good);
+            let way = &self.ways[rest.trailing_zeros() as usize];
+            way.keep_unlinked(&mut without, &mut good.clone());
             rest &= rest - 1;
         }
-        family::less(types, &without)
+        family::remove(types, &without);
     }
 
-    /// Those in which every true EX over one of the modes has its next type in `good`.
-    fn every_step(&self, types: &Family<W>, good: &Family<W>, modes: Modes) -> Family<W> {
+    /// Of some types, those stay in which every true EX over one of the modes has its next type in `good`.
+    fn every_step(&self, types: &mut Family<W>, good: &Family<W>, modes: Modes) {
         let asked = self.asks.iter().filter(|ask| modes >> ask.mode & 1 == 1);
-        asked.fold(*types, |kept, ask| self.follow(&kept, good, ask))
+        asked.for_each(|ask| self.follow(types, good, ask));
     }
 }
 
 impl<const W: usize> Way<W> {
-    /// Of some types, those that are linked to no target. A type that refuses little stands for all targets that refuse as much and more:
-    /// whoever is linked to one of those is linked to it.
-    fn unlinked(&self, types: &Family<W>, targets: &Family<W>) -> Family<W> {
+    /// Of some types, those stay that are linked to no target; the targets are used up. A type that refuses little stands for all targets that
+    /// refuse as much and more: whoever is linked to one of those is linked to it. The first is taken as it comes: most calls end with it.
+    #[inline(always)]
+    fn keep_unlinked(&self, types: &mut Family<W>, targets: &mut Family<W>) {
         if !family::is_empty(&family::less(targets, &self.refusing)) {
-            return family::none();
+            *types = family::none();
+            return;
         }
-        let mut left = *types;
-        let mut rest = *targets;
-        while let Some(t) = family::first(&rest) {
-            let refused = self.smaller(&rest, self.refused(t));
-            left = family::and(&left, &some(&self.demands, refused));
-            if family::is_empty(&left) {
-                break;
+        let mut next = family::first(targets).map(|t| self.refused(t));
+        while let Some(refused) = next {
+            family::keep(types, &some(&self.demands, refused));
+            if family::is_empty(types) {
+                return;
             }
-            rest = family::less(&rest, &every(&self.refusals, refused));
+            family::remove(targets, &every(&self.refusals, refused));
+            next = family::first(targets).map(|t| self.smaller(targets, self.refused(t)));
         }
-        left
     }
 
     /// The conditions that a type refuses.
     fn refused(&self, t: usize) -> u32 {
         let bits = self.refusals.iter().enumerate();
-        bits.fold(0, |set, (i, types)| set | u32::from(family::has(types, t)) << i)
+        bits.fold(0, |set, (i, types)| {
+            set | u32::from(family::has(types, t)) << i
+        })
     }
 
     /// What some type of a set refuses, where another refuses `refused`: no more, and less where a type does.
@@ -244,7 +249,7 @@ fn some<const W: usize>(families: &[Family<W>], set: u32) -> Family<W> {
     let mut types = family::none();
     let mut rest = set;
     while rest != 0 {
-        types = family::or(&types, &families[rest.trailing_zeros() as usize]);
+        family::add(&mut types, &families[rest.trailing_zeros() as usize]);
         rest &= rest - 1;
     }
     types
@@ -254,7 +259,7 @@ fn every<const W: usize>(families: &[Family<W>], set: u32) -> Family<W> {
     let mut types = [u64::MAX; W];
     let mut rest = set;
     while rest != 0 {
-        types = family::and(&types, &families[rest.trailing_zeros() as usize]);
+        family::keep(&mut types, &families[rest.trailing_zeros() as usize]);
         rest &= rest - 1;
     }
     types
@@ -375,7 +380,9 @@ fn ways<const W: usize>(members: &[Member], truth: &[Family<W>]) -> Vec<Way<W>> 
     let way = |demands: &Vec<Family<W>>, refusals: &Vec<Family<W>>| Way {
         demands: demands.clone(),
         refusals: refusals.clone(),
-        refusing: refusals.iter().fold(family::none(), |a, b| family::or(&a, b)),
+        refusing: refusals
+            .iter()
+            .fold(family::none(), |a, b| family::or(&a, b)),
     };
     let forward = (0..8).map(|field| way(&demands[field], &refusals[field]));
     let backward = (0..8).map(|field| way(&refusals[field], &demands[field]));
@@ -386,7 +393,10 @@ fn asks<const W: usize>(nexts: &[Next], truth: &[Family<W>]) -> Vec<Ask<W>> {
     let mut asks: Vec<Ask<W>> = Vec::with_capacity(nexts.len());
     for next in nexts {
         let holders = truth[next.whole];
-        match asks.iter_mut().find(|ask| next.mode < 8 && ask.mode == next.mode) {
+        match asks
+            .iter_mut()
+            .find(|ask| next.mode < 8 && ask.mode == next.mode)
+        {
             Some(ask) => ask.holders = family::or(&ask.holders, &holders),
             None => asks.push(Ask {
                 mode: next.mode,
