@@ -10,7 +10,6 @@ use lib.Dec.{eqb}
 use borrow.Author.Tests.{eqb-true, not-false}
 use lib.ListN.{length, getD, set, length-set}
 use lib.Seq.{getD-set-same, getD-set-other}
-use lib.Pow.{high, pow-mono}
 use Rattle.wordset.proofs.BelowLaws.{any-ext, top}
 use Rattle.wordset.proofs.BitLaws.{bit-none, bit-or, test-bit}
 use Rattle.wordset.specs.Answers.{Answers}
@@ -31,15 +30,6 @@ entry-word cw c k h = record { small = h; each = entry-at cw c k }
 -- (cw[k * 64 + c] >> b) & 1 == 1
 pub entry-test : (cw : List ℕ) (c k b : ℕ) → b < 64 → eqb (bitAnd (getD cw (k * 64 + c) 0 / 2 ^ b) 1) 1 ≡ entry cw c (k * 64 + b)
 entry-test cw c k b h = test-bit (getD cw (k * 64 + c) 0) b ∙ sym (entry-at cw c k b h)
-
--- ---- numbers past a word
-
-pub bit-past : (k x : ℕ) → x < 2 ^ k → (c : ℕ) → k ≤ c → bit x c ≡ false
-unfolding bit
-bit-past k x h c l =
-    let p : 2 ^ k ≤ 2 ^ c = pow-mono l in
-    let z : x ≡ 0 * 2 ^ c + x = omega arith in
-    ap (λ (n : ℕ). eqb (n % 2) 1) (ap (λ (n : ℕ). n / 2 ^ c) z ∙ high 0 c (omega arith))
 
 -- a type's entry is read off one word
 entry-same : (cw cw′ : List ℕ) (c c′ t : ℕ) → getD cw′ (t / 64 * 64 + c′) 0 ≡ getD cw (t / 64 * 64 + c) 0 → entry cw′ c′ t ≡ entry cw c t

@@ -1,5 +1,4 @@
 pub mod EntryLaws
-pub mod Joining
 pub mod RuleWords
 pub mod RuleLaws
 pub mod Sides

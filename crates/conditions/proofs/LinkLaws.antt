@@ -8,14 +8,14 @@ use native.Mathlib.Nat.{add-comm}
 use native.Mathlib.Omega.{arith}
 use lib.Dec.{eqb}
 use lib.ListN.{length, getD}
-use lib.Pow.{shl-shr, shr-shr}
+use lib.Pow.{shl-shr}
 use borrow.Author.Tests.{le-ltb, lt-ltb, not-true}
 use Rattle.ctl.specs.Links.{link, linkBy, linkRule}
 use Rattle.ctl.specs.Lists.{imp}
 use Rattle.ctl.specs.Modes.{hasMode, single}
 use Rattle.ctl.proofs.BoolLaws.{and-both, decide, false-of, same-test}
 use Rattle.wordset.proofs.BelowLaws.{all-elim, all-intro, any-add, any-ext, any-false, any-none, lt-or-le, same-or}
-use Rattle.wordset.proofs.BitLaws.{bit-none, digit-low}
+use Rattle.wordset.proofs.BitLaws.{bit-none, bit-past, bit-shr, digit-low}
 use Rattle.wordset.specs.Below.{allBelow, anyBelow}
 use Rattle.wordset.specs.Word.{bit}
 use Rattle.members.specs.Members.{forms}
@@ -26,29 +26,25 @@ use Rattle.conditions.specs.Entries.{entry, inSome, linkedBy, partner, r
 use Rattle.conditions.specs.Conditions.{Below, Conditions, Lk, OfPlace, Own, Placed, clash, nothing}
 use Rattle.conditions.specs.Putting.{Sided, Summed, Turned}
 use Rattle.conditions.specs.declared.Condition.{Condition}
-use Rattle.conditions.proofs.EntryLaws.{bit-past, entry-kept, some-kept}
+use Rattle.conditions.proofs.EntryLaws.{entry-kept, some-kept}
 use Rattle.conditions.proofs.RuleLaws.{au-rule, nothing-clash, own-ax, own-ex, own-other}
 
 -- ---- a word shifted up by half
 
-bit-shr : (x j c : ℕ) → bit (x / 2 ^ j) c ≡ bit x (j + c)
-unfolding bit
-bit-shr x j c = ap (λ (n : ℕ). eqb (n % 2) 1) (shr-shr x j c)
-
 module _ (x : ℕ) where
-  abbrev up : ℕ
+  abbrev pub up : ℕ
   up = (x * 2 ^ 32) % 2 ^ 64
 
   shifted : up ≡ (x % 2 ^ 32) * 2 ^ 32
   shifted = omega arith
 
-  up-low : (c : ℕ) → c < 32 → bit up c ≡ false
+  pub up-low : (c : ℕ) → c < 32 → bit up c ≡ false
   unfolding bit
   up-low c l =
       let s : up ≡ (x % 2 ^ 32) * 2 ^ 32 + 0 = omega (arith, shifted) in
       ap (λ (n : ℕ). bit n c) s ∙ ap (λ (n : ℕ). eqb n 1) (digit-low (x % 2 ^ 32) 0 c 32 l) ∙ bit-none c
 
-  up-high : (j : ℕ) → j < 32 → bit up (32 + j) ≡ bit x j
+  pub up-high : (j : ℕ) → j < 32 → bit up (32 + j) ≡ bit x j
   unfolding bit
   up-high j l =
       let d : (x / 2 ^ 32) * 2 ^ 32 + x % 2 ^ 32 ≡ x = omega arith in

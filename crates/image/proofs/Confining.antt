@@ -3,24 +3,17 @@ use mathlib.Core.Path.{_≡_, refl, sym, ap, _∙_}
 use mathlib.Core.Bool.{Bool, true, false, not, _&&_, _||_, true≢false}
 use mathlib.Core.List.{List}
 use Prim.Native.Nat.{ℕ, _*_, _^_, _<_}
+use borrow.Author.Tests.{not-true}
 use lib.ListN.{getD}
 use Rattle.ctl.proofs.BoolLaws.{and-both, and-make}
-use Rattle.wordset.proofs.BelowLaws.{any-ext, any-false, any-intro, any-none, least-holds, least-lt}
+use Rattle.wordset.proofs.BelowLaws.{any-ext, any-false, any-intro, any-none}
 use Rattle.wordset.proofs.PackLaws.{packed-ext, packed-self}
-use Rattle.wordset.specs.Below.{anyBelow, least}
+use Rattle.wordset.specs.Below.{anyBelow}
 use Rattle.wordset.specs.Word.{bit}
 use Rattle.wordset.specs.Words.{member, minus, packed}
-use Rattle.image.proofs.Draining.{linked-ext}
+use Rattle.image.proofs.Draining.{linked-ext, some}
 use Rattle.truth.specs.Blocks.{has}
 use Rattle.conditions.specs.Entries.{entry, inSome, linkedBy, linkedTo, partner, side}
-
--- some number passes
-some : (n : ℕ) (P : ℕ → Bool) → anyBelow n P ≡ true → (j : ℕ) × (j < n) × (P j ≡ true)
-some n P e = let l = least-lt n P e in (least n P, l, least-holds n P l)
-
-off : (b : Bool) → not b ≡ true → b ≡ false
-off true z = sym z
-off false z = refl
 
 -- ---- what is left of a set whose members were picked for it
 
@@ -36,7 +29,7 @@ unfolding linkedTo linkedBy inSome
 free-linked w cw a Z R f e t =
     let s = some (w * 64) (λ u. Z u && not (R u)) e in
     let b = and-both (Z (s .0)) _ (s .2) in
-    let n : anyBelow 64 (λ c. bit a c && entry cw c (s .0)) ≡ false = sym (f (s .0) (s .1)) ∙ off _ (b .1) in
+    let n : anyBelow 64 (λ c. bit a c && entry cw c (s .0)) ≡ false = sym (f (s .0) (s .1)) ∙ not-true _ (b .1) in
     any-intro (λ u. Z u && linkedBy cw a t u) (w * 64) (s .0) (s .1)
     (and-make (Z (s .0)) _ (b .0) (ap not (any-none (λ c. bit a c && (entry cw (partner c) t && entry cw c (s .0))) 64
     (λ c l. none (bit a c) (entry cw (partner c) t) (entry cw c (s .0)) (any-false (λ c. bit a c && entry cw c (s .0)) 64 n c l)))))

@@ -4,6 +4,7 @@ use mathlib.Core.Bool.{Bool, true, false, not, _&&_, Bool·beq, and-true, and-fa
 use mathlib.Core.List.{List}
 use Prim.Native.Nat.{ℕ, _+_, _*_, _/_, _%_, _<_}
 use native.Mathlib.Omega.{arith}
+use borrow.Author.Tests.{not-true}
 use lib.ListN.{length}
 use Rattle.ctl.proofs.BoolLaws.{and-both, and-make}
 use Rattle.wordset.proofs.BelowLaws.{all-false, any-ext, any-false, any-intro, any-none, count-ext, least-below, least-holds, least-le, least-lt}
@@ -15,12 +16,8 @@ use Rattle.conditions.specs.Entries.{entry, inSome, linkedBy, linkedTo, partner
 use Rattle.image.specs.Covering.{Refused, RefusedBy, demands, notAll, passing}
 
 -- some number passes
-some : (n : ℕ) (P : ℕ → Bool) → anyBelow n P ≡ true → (j : ℕ) × (j < n) × (P j ≡ true)
+pub some : (n : ℕ) (P : ℕ → Bool) → anyBelow n P ≡ true → (j : ℕ) × (j < n) × (P j ≡ true)
 some n P e = let l = least-lt n P e in (least n P, l, least-holds n P l)
-
-off : (b : Bool) → not b ≡ true → b ≡ false
-off true z = sym z
-off false z = refl
 
 -- ---- what the partners of r are for: to be in one of them is to demand something of r
 
@@ -97,7 +94,7 @@ module _ (w : ℕ) (cw : List ℕ) (a : ℕ) where
           let b = and-both (bit r (i .0)) (entry cw (partner (i .0)) t) (i .2) in
           let d = and-both (bit a (i .0)) (entry cw (i .0) q) (sym (f (i .0)) ∙ b .0) in
           let y = and-both (Z (s .0)) (linkedBy cw a t (s .0)) (s .2) in
-          let n = any-false (λ c. bit a c && (entry cw (partner c) t && entry cw c (s .0))) 64 (off _ (y .1)) (i .0) (i .1) in
+          let n = any-false (λ c. bit a c && (entry cw (partner c) t && entry cw c (s .0))) 64 (not-true _ (y .1)) (i .0) (i .1) in
           let k : entry cw (i .0) (s .0) ≡ false = ap₂ (λ p z. p && (z && entry cw (i .0) (s .0))) (sym (d .0)) (sym (b .1)) ∙ n in
           let l : notAll cw r (s .0) ≡ true = any-intro (λ c. bit r c && not (entry cw c (s .0))) 64 (i .0) (i .1) (and-make (bit r (i .0)) _ (b .0) (ap not k)) in
           any-intro (λ u. Left u && linkedBy cw a t u) (w * 64) (s .0) (s .1) (and-make (Left (s .0)) _ (and-make (Z (s .0)) _ (y .0) l) (y .1))

@@ -5,6 +5,7 @@ use mathlib.Core.List.{List}
 use mathlib.Core.Logic.{⊎-elim}
 use Prim.Native.Nat.{ℕ, _+_, _*_, _^_, _≤_, _<_}
 use native.Mathlib.Omega.{arith}
+use borrow.Author.Tests.{not-true}
 use lib.Bits.{bitAnd, and-le-r, and-lt}
 use lib.Count.{trailingZeros}
 use Rattle.ctl.proofs.BoolLaws.{and-both, and-make}
@@ -41,15 +42,11 @@ part-lt a b j ha hb f x y =
 abbrev pub fewer : List ℕ → ℕ → ℕ → ℕ → Bool
 fewer cw a r u = notAll cw r u && not (anyBelow 64 (λ c. (bit a c && not (bit r c)) && entry cw c u))
 
-off : (b : Bool) → not b ≡ true → b ≡ false
-off true z = sym z
-off false z = refl
-
 module _ (cw : List ℕ) (a r u : ℕ) (f : fewer cw a r u ≡ true) where
   -- what it refuses is in r
   fewer-within : (i : ℕ) → i < 64 → (bit a i && entry cw i u) ≡ true → bit r i ≡ true
   fewer-within i l e =
-      let n = off _ (and-both (notAll cw r u) _ f .1) in
+      let n = not-true _ (and-both (notAll cw r u) _ f .1) in
       let b = and-both (bit a i) (entry cw i u) e in
       go (bit a i) (bit r i) (entry cw i u) (b .0) (b .1) (any-false (λ c. (bit a c && not (bit r c)) && entry cw c u) 64 n i l)
     where
@@ -63,7 +60,7 @@ module _ (cw : List ℕ) (a r u : ℕ) (f : fewer cw a r u ≡ true) where
   fewer-lack =
       let l = least-lt 64 P (and-both (anyBelow 64 P) _ f .0) in
       let b = and-both (bit r (least 64 P)) (not (entry cw (least 64 P) u)) (least-holds 64 P l) in
-      (least 64 P, l, b .0, off (entry cw (least 64 P) u) (b .1))
+      (least 64 P, l, b .0, not-true (entry cw (least 64 P) u) (b .1))
     where
       P : ℕ → Bool
       P i = bit r i && not (entry cw i u)

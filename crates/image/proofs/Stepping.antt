@@ -13,7 +13,7 @@ use Rattle.wordset.proofs.BitLaws.{bit-none}
 use Rattle.wordset.specs.Below.{anyBelow}
 use Rattle.wordset.specs.Word.{bit}
 use Rattle.wordset.specs.Words.{member, minus}
-use Rattle.conditions.proofs.Joining.{any-take}
+use Rattle.truth.proofs.Joining.{any-take}
 use Rattle.truth.proofs.ListWords.{minus-member}
 use Rattle.members.proofs.ModeLaws.{mode-bit}
 use Rattle.truth.proofs.Sifting.{less, less-bit, less-lt, lowest}

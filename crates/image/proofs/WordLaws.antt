@@ -6,18 +6,16 @@ use mathlib.Core.Logic.{⊎-elim}
 use Prim.Native.Nat.{ℕ, _+_, _-_, _*_, _/_, _%_, _^_, _≤_, _<_}
 use native.Mathlib.Omega.{arith}
 use lib.Bits.{bitAnd, bitOr}
-use lib.Dec.{eqb}
-use lib.Pow.{shl-shr, shr-shr}
 use Rattle.truth.proofs.BlockLaws.{word-as, word-not}
 use Rattle.truth.proofs.Sifting.{Sifting}
 use Rattle.wordset.proofs.AnswersLaws.{and-answers}
 use Rattle.wordset.proofs.BelowLaws.{any-ext, lt-or-le}
-use Rattle.wordset.proofs.BitLaws.{bit-minus, bit-none, bit-or, digit-low}
+use Rattle.wordset.proofs.BitLaws.{bit-minus, bit-none, bit-or, bit-past, bit-shr}
 use Rattle.wordset.specs.Answers.{Answers}
 use Rattle.wordset.specs.Below.{anyBelow}
 use Rattle.wordset.specs.Word.{bit}
+use Rattle.conditions.proofs.LinkLaws.{up, up-high, up-low}
 use Rattle.conditions.specs.Entries.{entry, inSome}
-use Rattle.conditions.proofs.EntryLaws.{bit-past}
 use Rattle.image.specs.Covering.{RefusedBy, notAll}
 
 -- the loop over the entries that have a type: nothing is left
@@ -29,36 +27,17 @@ refused-end cw a t {rest} {acc} s h e c =
 
 -- ---- a word shifted round by half
 
-bit-shr : (x j c : ℕ) → bit (x / 2 ^ j) c ≡ bit x (j + c)
-unfolding bit
-bit-shr x j c = ap (λ (n : ℕ). eqb (n % 2) 1) (shr-shr x j c)
-
 pub bit-half : (r : ℕ) → r < 2 ^ 64 → (c : ℕ) → c < 64 → bit (bitOr (r / 2 ^ 32) ((r * 2 ^ 32) % 2 ^ 64)) c ≡ bit r ((c + 32) % 64)
-unfolding bit
-bit-half r h c l = bit-or (r / 2 ^ 32) ((r * 2 ^ 32) % 2 ^ 64) c ∙ ⊎-elim low up (lt-or-le c 32)
+bit-half r h c l = bit-or (r / 2 ^ 32) (up r) c ∙ ⊎-elim low high (lt-or-le c 32)
   where
-    u : ℕ
-    u = (r * 2 ^ 32) % 2 ^ 64
+    low : c < 32 → (bit (r / 2 ^ 32) c || bit (up r) c) ≡ bit r ((c + 32) % 64)
+    low g = let e : 32 + c ≡ (c + 32) % 64 = omega arith in ap₂ _||_ (bit-shr r 32 c ∙ ap (bit r) e) (up-low r c g) ∙ or-false (bit r ((c + 32) % 64))
 
-    shifted : u ≡ (r % 2 ^ 32) * 2 ^ 32
-    shifted = omega arith
-
-    low : c < 32 → (bit (r / 2 ^ 32) c || bit u c) ≡ bit r ((c + 32) % 64)
-    low g =
-        let e : 32 + c ≡ (c + 32) % 64 = omega arith in
-        let s : u ≡ (r % 2 ^ 32) * 2 ^ 32 + 0 = omega (arith, shifted) in
-        ap₂ _||_ (bit-shr r 32 c ∙ ap (bit r) e) (ap (λ (n : ℕ). bit n c) s ∙ ap (λ (n : ℕ). eqb n 1) (digit-low (r % 2 ^ 32) 0 c 32 g) ∙ bit-none c)
-        ∙ or-false (bit r ((c + 32) % 64))
-
-    up : 32 ≤ c → (bit (r / 2 ^ 32) c || bit u c) ≡ bit r ((c + 32) % 64)
-    up g =
-        let j : ℕ = c - 32 in
+    high : 32 ≤ c → (bit (r / 2 ^ 32) c || bit (up r) c) ≡ bit r ((c + 32) % 64)
+    high g =
         let e : c ≡ 32 + (c - 32) = omega arith in
         let f : (c + 32) % 64 ≡ c - 32 = omega arith in
-        let d : (r / 2 ^ 32) * 2 ^ 32 + r % 2 ^ 32 ≡ r = omega arith in
-        ap₂ _||_ (bit-past 32 (r / 2 ^ 32) (omega arith) c g)
-        (ap₂ bit shifted e ∙ sym (bit-shr ((r % 2 ^ 32) * 2 ^ 32) 32 j) ∙ ap (λ (n : ℕ). bit n j) (shl-shr (r % 2 ^ 32) 32)
-        ∙ sym (ap (λ (n : ℕ). eqb n 1) (digit-low (r / 2 ^ 32) (r % 2 ^ 32) j 32 (omega arith))) ∙ ap₂ bit d (sym f))
+        ap₂ _||_ (bit-past 32 (r / 2 ^ 32) (omega arith) c g) (ap (bit (up r)) e ∙ up-high r (c - 32) (omega arith) ∙ ap (bit r) (sym f))
 
 -- ---- types that refuse less
 

@@ -7,3 +7,4 @@ pub mod PlaceWords
 pub mod TruthLaws
 pub mod TruthWords
 pub mod Sifting
+pub mod Joining

@@ -1,6 +1,6 @@
 -- The words of a member from those of its operands and of places of the lean. Assumes nothing.
-use mathlib.Core.Path.{_≡_, sym, ap, ap₂, _∙_, subst}
-use mathlib.Core.Bool.{Bool, true, false, not, _&&_, true≢false, false≢true, _||_}
+use mathlib.Core.Path.{_≡_, refl, sym, ap, ap₂, _∙_, subst}
+use mathlib.Core.Bool.{Bool, true, false, not, _&&_, _||_, or-false, true≢false, false≢true}
 use mathlib.Core.List.{List}
 use Prim.Native.Nat.{ℕ, _+_, _-_, _*_, _%_, _^_, _≤_, _<_}
 use native.Mathlib.Omega.{arith}
@@ -8,10 +8,14 @@ use lib.ListN.{length, getD}
 use lib.Bits.{bitAnd, bitOr}
 use Rattle.ctl.specs.Modes.{hasMode}
 use Rattle.ctl.specs.Types.{inType}
-use Rattle.wordset.proofs.BitLaws.{shl-one}
+use Rattle.members.proofs.ModeLaws.{mode-bit}
+use Rattle.wordset.proofs.BelowLaws.{any-add, any-ext, any-none}
+use Rattle.wordset.proofs.BitLaws.{bit-low, bit-past, shl-one}
 use Rattle.wordset.proofs.AnswersLaws.{and-answers, or-answers}
 use Rattle.truth.specs.Tables.{Leans, Table, argAt, leftAt, rightAt, tagAt}
 use Rattle.wordset.specs.Answers.{Answers}
+use Rattle.wordset.specs.Below.{anyBelow}
+use Rattle.wordset.specs.Word.{bit}
 use Rattle.truth.specs.Truths.{oneMode, placeOf, plain, someMode, trueAt}
 use Rattle.truth.proofs.BlockLaws.{word-as, word-none, word-not}
 use Rattle.truth.proofs.TruthLaws.{place-le, truth-10, truth-11, truth-2, truth-3, truth-4, truth-5, truth-6, truth-7, truth-8, truth-9}
@@ -33,6 +37,28 @@ module _ (ms ln : List ℕ) (a m b i : ℕ) where
   mode-ex false p x h d e q f =
       word-as (λ t. ap (λ k. inType t k) (q ∙ ap (λ z. placeOf ms ln 6 z b) (shl-one m (omega arith))) ∙ sym (ap (λ s. s && inType t (placeOf ms ln 6 (2 ^ m) b)) e)) f
   mode-ex true p x h d e q f = absurd (true≢false d)
+
+-- ---- all modes of the set a: those of its digits below 16
+
+twice : (b c : Bool) → (b && (b && c)) ≡ (b && c)
+twice true c = refl
+twice false c = refl
+
+any-low : (Q : ℕ → Bool) (a : ℕ) → anyBelow 64 (λ i. bit (a % 65536) i && Q i) ≡ anyBelow 16 (λ m. hasMode a m && Q m)
+any-low Q a =
+    any-add (λ i. bit (a % 65536) i && Q i) 16 48
+    ∙ ap₂ _||_ (any-ext (λ i. bit (a % 65536) i && Q i) (λ m. hasMode a m && Q m) 16 (λ i h. ap (λ z. z && Q i) (bit-low 16 a i h ∙ sym (mode-bit a i))))
+    (any-none (λ j. bit (a % 65536) (16 + j) && Q (16 + j)) 48 (λ j h. ap (λ z. z && Q (16 + j)) (bit-past 16 (a % 65536) (omega arith) (16 + j) (omega arith))))
+    ∙ or-false (anyBelow 16 (λ m. hasMode a m && Q m))
+
+module _ (ms ln : List ℕ) (a b : ℕ) where
+  mode-own : (n : Bool) (m t : ℕ) → (hasMode a m && oneMode ms ln n a m b t) ≡ oneMode ms ln n a m b t
+  mode-own true m t = twice (hasMode a m) (not (inType t (placeOf ms ln 7 (2 ^ m) b)))
+  mode-own false m t = twice (hasMode a m) (inType t (placeOf ms ln 6 (2 ^ m) b))
+
+  pub modes-all : (n : Bool) (t : ℕ) → anyBelow 64 (λ i. bit (a % 65536) i && oneMode ms ln n a i b t) ≡ someMode ms ln n a b t
+  unfolding someMode
+  modes-all n t = any-low (λ m. oneMode ms ln n a m b t) a ∙ any-ext (λ m. hasMode a m && oneMode ms ln n a m b t) (λ m. oneMode ms ln n a m b t) 16 (λ m h. mode-own n m t)
 
 -- ---- member i
 

@@ -102,10 +102,11 @@ fn some_mode(ms: &[u64], ln: &[u8], n: bool, a: u64, b: usize, idx: usize) -> u6
     ensures { λ r. ⌜ Answers (someMode (now (ms .entry)) (now (ln .entry)) n a b) idx r ⌝ }
 {
     let mut acc: u64 = 0;
-    let mut m = 0;
-    while m < 16 {
+    let mut rest = a % 65536;
+    while rest != 0 {
+        let m = u64::trailing_zeros(rest) as usize;
         acc = acc | mode_word(ms, ln, n, a, m, b, idx);
-        m += 1;
+        rest = rest & (rest - 1);
     }
     acc
 }

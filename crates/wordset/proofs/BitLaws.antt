@@ -3,13 +3,13 @@
 use mathlib.Core.Path.{_≡_, refl, sym, ap, ap₂, _∙_, fun-ext}
 use mathlib.Core.Bool.{Bool, true, false, _&&_, _||_, not, cond, true≢false, false≢true}
 use mathlib.Core.Logic.{⊎-elim}
-use Prim.Native.Nat.{ℕ, zero, suc, _+_, _-_, _*_, _/_, _%_, _^_, _<_, min, max}
-use native.Mathlib.Nat.{div-one, zero-div, pow-suc, mod-lt, zero-lt-suc, le-of-suc-le-suc, not-suc-le-zero, add-comm}
+use Prim.Native.Nat.{ℕ, zero, suc, _+_, _-_, _*_, _/_, _%_, _^_, _≤_, _<_, min, max}
+use native.Mathlib.Nat.{div-add-mod', div-one, zero-div, pow-suc, mod-lt, zero-lt-suc, le-of-suc-le-suc, not-suc-le-zero, add-comm}
 use native.Mathlib.Numerals.{one-add}
 use native.Mathlib.Omega.{arith}
 use lib.Dec.{eqb, eqb·zero-suc, eqb·suc-zero, eqb·suc-suc}
 use lib.Arith.{digits-mod, lt-one}
-use lib.Pow.{shr-shr, shl-exact, pow-pos, high}
+use lib.Pow.{shr-shr, shl-exact, pow-pos, pow-mono, high}
 use lib.Bits.{block-half, block-odd, bitAnd, bitOr, and-shr, or-shr, and-step, or-step, and-mask}
 use lib.Count.{ones, ones-step, trailingZeros, under}
 use borrow.Author.Tests.{ne-eqb}
@@ -107,6 +107,18 @@ pub bit-none : (i : ℕ) → bit 0 i ≡ false
 unfolding bit
 bit-none i = ap (λ (n : ℕ). eqb (n % 2) 1) (zero-div (2 ^ i))
 
+pub bit-shr : (x j c : ℕ) → bit (x / 2 ^ j) c ≡ bit x (j + c)
+unfolding bit
+bit-shr x j c = ap (λ (n : ℕ). eqb (n % 2) 1) (shr-shr x j c)
+
+-- a number has no digits from k on if it is below 2 ^ k
+pub bit-past : (k x : ℕ) → x < 2 ^ k → (c : ℕ) → k ≤ c → bit x c ≡ false
+unfolding bit
+bit-past k x h c l =
+    let p : 2 ^ k ≤ 2 ^ c = pow-mono l in
+    let z : x ≡ 0 * 2 ^ c + x = omega arith in
+    ap (λ (n : ℕ). eqb (n % 2) 1) (ap (λ (n : ℕ). n / 2 ^ c) z ∙ high 0 c (omega arith))
+
 -- 1 << b is the set of b alone
 pub bit-pow : (b i : ℕ) → bit (2 ^ b) i ≡ eqb i b
 bit-pow zero zero = bit-zero 1
@@ -158,6 +170,11 @@ digit-low c a i zero h = absurd (not-suc-le-zero h)
 digit-low c a zero (suc k) h = digit-zero (c * 2 ^ suc k + a) ∙ block-odd c k a ∙ sym (digit-zero a)
 digit-low c a (suc i) (suc k) h =
     digit-suc (c * 2 ^ suc k + a) i ∙ ap (λ (n : ℕ). digit n i) (block-half c k a) ∙ digit-low c (a / 2) i k (le-of-suc-le-suc h) ∙ sym (digit-suc a i)
+
+pub bit-low : (k x i : ℕ) → i < k → bit (x % 2 ^ k) i ≡ bit x i
+unfolding bit
+bit-low k x i h =
+    ap (λ (d : ℕ). eqb d 1) (sym (digit-low (x / 2 ^ k) (x % 2 ^ k) i k h) ∙ ap (λ (n : ℕ). digit n i) (div-add-mod' x (2 ^ k)))
 
 pub bit-wordOf : (k : ℕ) (P : ℕ → Bool) (i : ℕ) → i < k → bit (wordOf k P) i ≡ P i
 unfolding wordOf bit

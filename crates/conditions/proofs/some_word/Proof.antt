@@ -5,7 +5,7 @@ use lib.Count.{trailingZeros}
 use lib.ListN.{length}
 use Rattle.conditions.specs.Entries.{entry, inSome}
 use Rattle.truth.proofs.Sifting.{less-lt}
-use Rattle.conditions.proofs.Joining.{Joining, join-end, join-low, join-on, join-start}
+use Rattle.truth.proofs.Joining.{Joining, join-end, join-low, join-on, join-start}
 use Rattle.conditions.proofs.EntryLaws.{entry-word}
 use Rattle.conditions.proofs.some_word.Statement.{statement}
 use Rattle.conditions.proofs.some_word.Tie as tie

@@ -8,7 +8,7 @@ use Rattle.conditions.specs.Entries.{entry}
 use Rattle.image.specs.Covering.{notAll}
 use Rattle.truth.proofs.BlockLaws.{word-not}
 use Rattle.truth.proofs.Sifting.{less-lt}
-use Rattle.conditions.proofs.Joining.{Joining, join-end, join-low, join-on, join-start}
+use Rattle.truth.proofs.Joining.{Joining, join-end, join-low, join-on, join-start}
 use Rattle.conditions.proofs.EntryLaws.{entry-word}
 use Rattle.image.proofs.lack_word.Statement.{statement}
 use Rattle.image.proofs.lack_word.Tie as tie
