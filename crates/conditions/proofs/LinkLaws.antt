@@ -15,7 +15,7 @@ use Rattle.ctl.specs.Lists.{imp}
 use Rattle.ctl.specs.Modes.{hasMode, single}
 use Rattle.ctl.proofs.BoolLaws.{and-both, decide, false-of, same-test}
 use Rattle.wordset.proofs.BelowLaws.{all-elim, all-intro, any-add, any-ext, any-false, any-none, lt-or-le, same-or}
-use Rattle.wordset.proofs.BitLaws.{bit-none, bit-past, bit-shr, digit-low}
+use Rattle.wordset.proofs.BitLaws.{bit-low, bit-none, bit-past, bit-shr, digit-low}
 use Rattle.wordset.specs.Below.{allBelow, anyBelow}
 use Rattle.wordset.specs.Word.{bit}
 use Rattle.members.specs.Members.{forms}
@@ -45,11 +45,8 @@ module _ (x : ℕ) where
       ap (λ (n : ℕ). bit n c) s ∙ ap (λ (n : ℕ). eqb n 1) (digit-low (x % 2 ^ 32) 0 c 32 l) ∙ bit-none c
 
   pub up-high : (j : ℕ) → j < 32 → bit up (32 + j) ≡ bit x j
-  unfolding bit
   up-high j l =
-      let d : (x / 2 ^ 32) * 2 ^ 32 + x % 2 ^ 32 ≡ x = omega arith in
-      ap (λ (n : ℕ). bit n (32 + j)) shifted ∙ sym (bit-shr ((x % 2 ^ 32) * 2 ^ 32) 32 j) ∙ ap (λ (n : ℕ). bit n j) (shl-shr (x % 2 ^ 32) 32)
-      ∙ sym (ap (λ (n : ℕ). eqb n 1) (digit-low (x / 2 ^ 32) (x % 2 ^ 32) j 32 l)) ∙ ap (λ (n : ℕ). bit n j) d
+      ap (λ (n : ℕ). bit n (32 + j)) shifted ∙ sym (bit-shr ((x % 2 ^ 32) * 2 ^ 32) 32 j) ∙ ap (λ (n : ℕ). bit n j) (shl-shr (x % 2 ^ 32) 32) ∙ bit-low 32 x j l
 
   -- a number of it is one of x, moved
   up-bit : (c : ℕ) → bit up c ≡ true → (32 ≤ c) × (c < 64) × (bit x (c - 32) ≡ true)

@@ -13,13 +13,17 @@ use Rattle.wordset.specs.Below.{anyBelow, countBelow, least}
 use Rattle.wordset.specs.Word.{bit}
 use Rattle.wordset.specs.Words.{member}
 use Rattle.conditions.specs.Entries.{entry, inSome, linkedBy, linkedTo, partner}
-use Rattle.image.specs.Covering.{Refused, RefusedBy, demands, notAll, passing}
+use Rattle.image.specs.Covering.{Refused, RefusedBy, notAll, passing}
 
 -- some number passes
 pub some : (n : ℕ) (P : ℕ → Bool) → anyBelow n P ≡ true → (j : ℕ) × (j < n) × (P j ≡ true)
 some n P e = let l = least-lt n P e in (least n P, l, least-holds n P l)
 
 -- ---- what the partners of r are for: to be in one of them is to demand something of r
+
+-- t demands one of the conditions that are refused in the entries r
+unfoldable demands : List ℕ → ℕ → ℕ → Bool
+demands cw r t = anyBelow 64 (λ c. bit r c && entry cw (partner c) t)
 
 turned : (c : ℕ) → c < 64 → partner (partner c) ≡ c
 turned c h = omega arith

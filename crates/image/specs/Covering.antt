@@ -6,7 +6,7 @@ use Prim.Native.Nat.{ℕ, _*_, _<_}
 use Rattle.wordset.specs.Below.{anyBelow}
 use Rattle.wordset.specs.Word.{bit}
 use Rattle.wordset.specs.Words.{member}
-use Rattle.conditions.specs.Entries.{entry, inSome, partner}
+use Rattle.conditions.specs.Entries.{entry, inSome}
 
 -- r is what q refuses: of the entries a, those that have it
 abbrev pub RefusedBy : List ℕ → ℕ → ℕ → ℕ → Type 0
@@ -20,10 +20,6 @@ notAll cw r t = anyBelow 64 (λ c. bit r c && not (entry cw c t))
 unfoldable pub passing : List ℕ → ℕ → Bool → ℕ → Bool
 passing cw r false t = inSome cw r t
 passing cw r true t = notAll cw r t
-
--- t demands one of the conditions that are refused in the entries r
-unfoldable pub demands : List ℕ → ℕ → ℕ → Bool
-demands cw r t = anyBelow 64 (λ c. bit r c && entry cw (partner c) t)
 
 -- r is what some member of the set refuses
 pub record Refused (w : ℕ) (cw : List ℕ) (a : ℕ) (set : List ℕ) (r : ℕ) : Type 0 where
