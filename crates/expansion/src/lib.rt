@@ -2,6 +2,7 @@
 use members::Added;
 use members::bit;
 use members::make;
+use members::parts::first_mode;
 ghost use mathlib.Core.Path.{_≡_};
 ghost use mathlib.Core.List.{[], _∷_};
 ghost use Prim.Native.Nat.{_+_, _-_, _^_, _≤_, _<_};
@@ -112,10 +113,11 @@ pub fn next(tab: &mut [u64], n: usize, some: bool, mask: u64, body: usize) -> Ad
             count: most,
         };
     }
+    let m = first_mode(mask);
     let Added::At {
         index: _,
         count: most,
-    } = each(tab, more, some, mask, 0, body)
+    } = each(tab, more, some, mask >> m, m, body)
     else {
         return Added::Full;
     };

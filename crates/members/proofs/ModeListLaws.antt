@@ -1,12 +1,13 @@
--- A set of modes as a list, and the bit of one mode. Assumes nothing.
+-- A set of modes as a list, from its lowest mode on too, and the bit of one mode. Assumes nothing.
 use mathlib.Core.Path.{_≡_, refl, sym, ap, _∙_, subst}
 use mathlib.Core.List.{List, [], _∷_}
 use Prim.Native.Nat.{ℕ, zero, suc, _+_, _-_, _*_, _/_, _%_, _^_, _≤_, _<_}
 use native.Mathlib.Omega.{arith}
-use native.Mathlib.Nat.{pow-succ', one-mul}
+use native.Mathlib.Nat.{pow-succ', one-mul, add-zero, div-one}
 use native.Mathlib.Decide.{decLe}
 use lib.Dec.{eqb, lit<}
 use lib.Pow.{shr-shr, shl-exact, pow-lt}
+use lib.Count.{trailingZeros, under}
 use borrow.Author.Tests.{eq-eqb, ne-eqb}
 use Rattle.ctl.specs.Lists.{put, keep, countFrom}
 use Rattle.ctl.specs.Modes.{hasMode, modes}
@@ -62,3 +63,22 @@ half-below m r h k = let e : 16 - m ≡ suc (16 - (m + 1)) = omega arith in let 
 
 pub one-bit : (m : ℕ) → m < 16 → ((1 * 2 ^ m) % 2 ^ 64 ≡ 2 ^ m) × ((1 * 2 ^ m) % 2 ^ 64 < 65536)
 one-bit m h = let e : (1 * 2 ^ m) % 2 ^ 64 ≡ 2 ^ m = shl-exact 1 m 64 (lit< tt) (omega arith) ∙ one-mul (2 ^ m) in (e, subst (λ x. x < 65536) (sym e) (pow-lt h))
+
+-- the modes of s from n on are those of r from m on, and n is the first
+abbrev Same : (m r n s : ℕ) → Type 0
+Same m r n s = ((n ≤ 16) × (s < 2 ^ (16 - n))) × ((s % 2 ≡ 1) × (modesFrom n s ≡ modesFrom m r))
+
+pub modes-jump : (d m r : ℕ) → m ≤ 16 → 0 < r → r < 2 ^ (16 - m) → r < 2 ^ d → Same m r (m + trailingZeros d r) (r / 2 ^ trailingZeros d r)
+unfolding trailingZeros
+modes-jump zero m r h g k b = absurd (omega arith)
+modes-jump (suc d) m r h g k b = go (r % 2) refl (λ e. (let l = mode-below m r h g k in modes-jump d (m + 1) (r / 2) (omega arith) (omega arith) (half-below m r l k) (omega (arith, pow-succ' 2 d))))
+  where
+    go : (x : ℕ) → r % 2 ≡ x → (r % 2 ≡ 0 → Same (m + 1) (r / 2) (m + 1 + trailingZeros d (r / 2)) (r / 2 / 2 ^ trailingZeros d (r / 2)))
+        → Same m r (m + under x (trailingZeros d (r / 2))) (r / 2 ^ under x (trailingZeros d (r / 2)))
+    go zero e rec =
+        let t = trailingZeros d (r / 2) in
+        let n : m + 1 + t ≡ m + suc t = omega arith in
+        let s : r / 2 / 2 ^ t ≡ r / 2 ^ suc t = shr-shr r 1 t ∙ ap (λ k. r / 2 ^ k) (omega arith) in
+        let q = rw (n, s) at (rec e) in
+        (q .0, (q .1 .0, q .1 .1 ∙ sym (modes-skip m r (mode-below m r h g k) e)))
+    go (suc x) e rec = rw (add-zero, div-one) ((h, k), (omega arith, refl))

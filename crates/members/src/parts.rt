@@ -2,9 +2,10 @@
 ghost use mathlib.Core.Path.{_≡_};
 ghost use mathlib.Core.Bool.{true};
 ghost use mathlib.Core.Logic.{_⊎_};
-ghost use Prim.Native.Nat.{_<_, _^_};
+ghost use Prim.Native.Nat.{_-_, _/_, _%_, _^_, _≤_, _<_};
 ghost use Rattle.ctl.specs.Modes.{hasMode, single};
 ghost use Rattle.members.specs.Members.{argW, leftW, rightW, tagW};
+ghost use Rattle.members.specs.ModeLists.{modesFrom};
 
 // The tag of a member's word.
 pub fn tag(x: u64) -> u64
@@ -53,4 +54,15 @@ pub fn mode_of(a: u64) -> usize
         }
     }
     16
+}
+
+// The lowest mode of a set; 0 where it is empty.
+pub fn first_mode(a: u64) -> u64
+    requires { ⌜ a < 65536 ⌝ }
+    ensures { λ m. ⌜ ((m ≤ 16) × (a / 2 ^ m < 2 ^ (16 - m))) × ((0 < a → a / 2 ^ m % 2 ≡ 1) × (modesFrom m (a / 2 ^ m) ≡ modesFrom 0 a)) ⌝ }
+{
+    if a == 0 {
+        return 0;
+    }
+    u64::trailing_zeros(a) as u64
 }
