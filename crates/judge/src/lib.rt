@@ -9,6 +9,8 @@ ghost use Rattle.judge.specs.Judged.{goalsAt, Room, Places, Judged};
 ghost use Rattle.goal.specs.Goals.{firstOf};
 use goal::Found;
 use goal::goal_type;
+use start::start_words;
+use tableau::eliminate::settle;
 use tableau::table::Counts;
 use tableau::table::table;
 
@@ -58,7 +60,7 @@ pub fn fill_table(
     )
 }
 
-// The least surviving type of naming r that has the goal. The six stores are room to work in.
+// The least surviving type of naming r that has the goal: the work of `table` without its counts, then a search. The six stores are room to work in.
 fn try_naming(
     ms: &[u64],
     ln: &[u8],
@@ -82,23 +84,8 @@ fn try_naming(
     requires { ⌜ Places w (now ln) (now names) (now base) × (goal < length (now ms)) ⌝ }
     ensures { λ a. ⌜ a ≡ firstOf (goalsAt (now (ms .entry)) (now (ln .entry)) w (now (base .entry)) (now (names .entry)) goal r) ⌝ }
 {
-    table(
-        ms,
-        ln,
-        w,
-        tw,
-        cw,
-        ns,
-        names,
-        r,
-        base,
-        first,
-        second,
-        u,
-        todo,
-        v,
-        rest,
-    );
+    start_words(names, ln.len(), r, w, base, first);
+    settle(ns, tw, cw, w, first, second, u, todo, v, rest);
     goal_type(ms, ln, w, tw, goal, first)
 }
 

@@ -2,16 +2,17 @@
 use mathlib.Core.Path.{_≡_}
 use mathlib.Core.Bool.{true, false, or-false}
 use mathlib.Core.List.{List}
-use Prim.Native.Nat.{ℕ, _+_, _-_, _≤_, _<_}
+use Prim.Native.Nat.{ℕ, zero, suc, _+_, _-_, _≤_, _<_}
 use native.Mathlib.Numerals.{add-one}
 use native.Mathlib.Omega.{arith}
-use lib.ListN.{length, getD, drop, length-drop, length-take, drop-of-length-le}
+use native.Mathlib.Decide.{decLe}
+use lib.ListN.{length, getD, take, drop, length-drop, length-take, drop-of-length-le}
 use lib.Seq.{drop-cons}
 use lib.Dec.{ltb}
 use borrow.Author.Tests.{eq-eqb, ne-eqb, lt-ltb, le-ltb}
-use Rattle.layout.specs.Text.{part, endOf, split, same, begins, has}
+use Rattle.layout.specs.Text.{part, upto, endOf, split, same, begins, has}
 use Rattle.layout.specs.Layout.{newline, anyLong, byteRight, byteWrong}
-use Rattle.layout.proofs.TextLaws.{cut-last, cut-next}
+use Rattle.layout.proofs.TextLaws.{split-last, split-next, cut-last, cut-next}
 
 -- ---- a byte in a text
 module _ (b : ℕ) (s : List ℕ) (i : ℕ) where
@@ -102,3 +103,13 @@ module _ (s : List ℕ) (at e : ℕ) (is : e ≡ endOf newline s at) (inside : a
 pub long-end : (s : List ℕ) (at : ℕ) → length s ≤ at → anyLong (split newline (drop at s)) ≡ false
 unfolding anyLong split
 long-end s at h = rw (drop-of-length-le s h)
+
+-- a part is no longer than its text
+pub long-none : (n : ℕ) (x : List ℕ) → length x ≤ n → n ≤ 200 → anyLong (split newline x) ≡ false
+unfolding anyLong
+long-none zero x h k = long-end x 0 h
+long-none (suc n) x h k = go (decLe (length x) (upto newline x)) (long-none n (drop (suc (upto newline x)) x) (rw length-drop (omega arith)) (omega arith))
+  where
+    go : Dec (length x ≤ upto newline x) → anyLong (split newline (drop (suc (upto newline x)) x)) ≡ false → anyLong (split newline x) ≡ false
+    go (yes l) e = rw (split-last newline x l, le-ltb 200 (length x) (omega arith))
+    go (no l) e = rw (split-next newline x (omega arith), le-ltb 200 (length (take (upto newline x) x)) (simp length-take (omega arith)), e)

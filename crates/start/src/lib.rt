@@ -163,10 +163,10 @@ fn add_type(names: &[u8], n: usize, r: u64, w: usize, base: &[u64], t: usize, ds
     requires { ⌜ Named (now names) n × ((w ≤ 1024) × ((w + w ≤ length (now base)) × ((w ≤ length (now dst)) × (t < w * 64)))) ⌝ }
     ensures { λ _. ⌜ now (dst .exit) ≡ packed w (λ u. member (now (dst .entry)) u || (member (now (base .entry)) (w * 64 + u) && (eqb u t && obeysBy (now (names .entry)) n r u))) (now (dst .entry)) ⌝ }
 {
-    if !obeys(names, n, r, t) {
+    if !wordset::contains(base, w * 64 + t) {
         return;
     }
-    if wordset::contains(base, w * 64 + t) {
+    if obeys(names, n, r, t) {
         dst[t / 64] = dst[t / 64] | (1 << (t % 64));
     }
 }

@@ -2,7 +2,6 @@
 use mathlib.Core.Path.{_≡_, ap, _∙_}
 use mathlib.Core.List.{List}
 use Prim.Native.Nat.{ℕ, _*_, _≤_, _<_}
-use native.Mathlib.Omega.{arith}
 use lib.ListN.{length}
 use Rattle.ctl.proofs.EliminationLaws.{survivors-ascend, survivors-closed}
 use Rattle.ctl.proofs.ListLaws.{Ascending, ascending-count, ascending-keep, below-out, keep-out, keep-same}
@@ -41,24 +40,30 @@ module _ (w : ℕ) (base names : List ℕ) (n r : ℕ) where
   start-below t m = below-out (w * 64) (keep-out (startsBy w base names n r) (below (w * 64)) m .0)
 
   -- x is the first store after the start
-  module _ (d x : List ℕ) (h : w ≤ length d) (long : length x ≡ length d) (e : x ≡ packed w (startsBy w base names n r) d) where
+  module _ (d x : List ℕ) (h : w ≤ length d) (e : x ≡ packed w (startsBy w base names n r) d) where
     start-list : listOf w x ≡ startList w base names n r
     unfolding listOf startList
     start-list =
         keep-same (member x) (startsBy w base names n r) (below (w * 64))
         (λ t m. held (startsBy w base names n r) d x w h e t (below-out (w * 64) m))
 
-    -- y and z are the stores after the rounds, and c has the counts
+    -- y is the first store after the rounds
+    pub first-is : (ms ln y : List ℕ) → y ≡ packed w (λ t. elem t (Survivors ms ln (listOf w x))) x → y ≡ packed w (λ t. elem t (Survivors ms ln (startList w base names n r))) d
+    first-is ms ln y ey =
+        packed-twice (startsBy w base names n r) (λ t. elem t (Survivors ms ln (startList w base names n r))) d x y w h e
+        (ey ∙ ap (λ s. packed w (λ t. elem t (Survivors ms ln s)) x) start-list)
+
+    -- z is the second one, and c has the counts
     pub table-is : (ms ln second y z : List ℕ) (c : Counts) → c .start ≡ countBelow (w * 64) (member x) → c .left ≡ countBelow (w * 64) (member y) → c .rounds ≡ Rounds ms ln (listOf w x)
         → y ≡ packed w (λ t. elem t (Survivors ms ln (listOf w x))) x → z ≡ packed w (λ t. elem t (Survivors ms ln (listOf w x))) second
         → Tabled (startList w base names n r) (Survivors ms ln (startList w base names n r)) (Rounds ms ln (startList w base names n r)) w d second y z c
     table-is ms ln second y z c es el er ey ez =
         let q = start-list in
-        let y-is = ey ∙ ap (λ s. packed w (λ t. elem t (Survivors ms ln s)) x) q in
+        let y-is = first-is ms ln y ey in
         record {
           started = es ∙ count-list w x ∙ ap length q;
-          left-over = el ∙ count-list w y ∙ ap length (survivors-list ms ln w (startList w base names n r) x y start-ascend start-below (omega arith) y-is);
+          left-over = el ∙ count-list w y ∙ ap length (survivors-list ms ln w (startList w base names n r) d y start-ascend start-below h y-is);
           rounds-done = er ∙ ap (Rounds ms ln) q;
-          first-holds = packed-twice (startsBy w base names n r) (λ t. elem t (Survivors ms ln (startList w base names n r))) d x y w h e y-is;
+          first-holds = y-is;
           second-holds = ez ∙ ap (λ s. packed w (λ t. elem t (Survivors ms ln s)) second) q;
         }

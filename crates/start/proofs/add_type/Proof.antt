@@ -1,4 +1,4 @@
--- `add_type` meets its contract: a type that does not obey, or is not of base, leaves the store as it is. Assumes nothing.
+-- `add_type` meets its contract: a type that is not of base, or does not obey, leaves the store as it is. Assumes nothing.
 use mathlib.Core.Path.{sym, ap, ap₂, _∙_}
 use mathlib.Core.Bool.{_&&_, and-false}
 use Prim.Native.Nat.{_+_, _*_}
@@ -10,17 +10,6 @@ use Rattle.start.proofs.Starting.{join-none, join-one}
 use Rattle.start.proofs.add_type.Statement.{statement}
 use Rattle.start.proofs.add_type.Tie as tie
 
-obeys-requires : tie.Need-obeys-requires
-obeys-requires c κs = search needs
-
-returns : tie.Need-returns
-returns c =
-    let b2 = c .before .before in
-    let b5 = b2 .before .before .before in
-    let a = b5 .args in
-    join-none (λ u. member (a .base .now) (a .w * 64 + u)) (obeysBy (a .names .now) (a .n) (a .r)) (a .dst .now) (a .w) (a .t) (b5 .pre .1 .1 .1 .0) (λ i h. b2 .slice-known .given i .fits)
-    (ap (λ b. member (a .base .now) (a .w * 64 + a .t) && b) (sym (c .before .obeys .ensures) ∙ not-true _ (c .if1 .taken)) ∙ and-false (member (a .base .now) (a .w * 64 + a .t)))
-
 mul-contains : tie.Need-mul-contains
 mul-contains c = search needs
 
@@ -29,6 +18,17 @@ add-contains c = search needs
 
 contains-requires : tie.Need-contains-requires
 contains-requires c κs = search needs
+
+returns : tie.Need-returns
+returns c =
+    let b2 = c .before .before in
+    let b5 = b2 .before .before .before in
+    let a = b5 .args in
+    join-none (λ u. member (a .base .now) (a .w * 64 + u)) (obeysBy (a .names .now) (a .n) (a .r)) (a .dst .now) (a .w) (a .t) (b5 .pre .1 .1 .1 .0) (λ i h. b2 .slice-known .given i .fits)
+    (ap (λ b. b && obeysBy (a .names .now) (a .n) (a .r) (a .t)) (sym (c .before .contains .ensures) ∙ not-true _ (c .if1 .taken)))
+
+obeys-requires : tie.Need-obeys-requires
+obeys-requires c κs = search needs
 
 mul-dst : tie.Need-mul-dst
 mul-dst c = search needs
@@ -56,7 +56,7 @@ returns-2 c =
     let b8 = b5 .before .before .before in
     let a = b8 .args in
     join-one (λ u. member (a .base .now) (a .w * 64 + u)) (obeysBy (a .names .now) (a .n) (a .r)) (a .dst .now) (a .w) (a .t) (b8 .pre .1 .1 .1 .0) (λ i h. b5 .slice-known .given i .fits) (b8 .pre .1 .1 .1 .1)
-    (ap₂ _&&_ (sym (b2 .contains .ensures) ∙ c .before .if2 .taken) (sym (b3 .before .obeys .ensures) ∙ not-false _ (b3 .if1 .left)))
+    (ap₂ _&&_ (sym (b3 .before .contains .ensures) ∙ not-false _ (b3 .if1 .left)) (sym (b2 .obeys .ensures) ∙ c .before .if2 .taken))
 
 returns-3 : tie.Need-returns-3
 returns-3 c =
@@ -64,17 +64,17 @@ returns-3 c =
     let b7 = b4 .before .before .before in
     let a = b7 .args in
     join-none (λ u. member (a .base .now) (a .w * 64 + u)) (obeysBy (a .names .now) (a .n) (a .r)) (a .dst .now) (a .w) (a .t) (b7 .pre .1 .1 .1 .0) (λ i h. b4 .slice-known .given i .fits)
-    (ap (λ b. b && obeysBy (a .names .now) (a .n) (a .r) (a .t)) (sym (c .before .contains .ensures) ∙ c .if2 .left))
+    (ap (λ b. member (a .base .now) (a .w * 64 + a .t) && b) (sym (c .before .obeys .ensures) ∙ c .if2 .left) ∙ and-false (member (a .base .now) (a .w * 64 + a .t)))
 
 pub add-type-spec : {M : Type 1} → statement M
 add-type-spec =
     tie.close
     (tie.spec
-    obeys-requires
-    returns
     mul-contains
     add-contains
     contains-requires
+    returns
+    obeys-requires
     mul-dst
     slice-read-dst
     shl-dst

@@ -1,6 +1,6 @@
 -- `bytes::any_long` meets its contract. Assumes nothing.
 use native.Mathlib.Omega.{arith}
-use Rattle.layout.proofs.ScanLaws.{long-last, long-here, long-next, long-end}
+use Rattle.layout.proofs.ScanLaws.{long-last, long-here, long-next, long-end, long-none}
 use Rattle.layout.specs.Layout.{anyLong, newline}
 use Rattle.layout.specs.Text.{split}
 use lib.ListN.{length, drop}
@@ -15,6 +15,9 @@ Inv-loop s at₀ at = (at ≤ length s) × (anyLong (split newline (drop at s)) 
 abbrev μ-loop : tie.MeasureT-loop
 μ-loop s at₀ at = length s - at
 
+returns : tie.Need-returns Inv-loop μ-loop
+returns c = sym (long-none 200 _ (c .if1 .taken) (omega arith))
+
 loop-holds : tie.Need-loop-holds Inv-loop μ-loop
 loop-holds c = (omega arith, refl)
 
@@ -24,21 +27,21 @@ end-of-requires c κs = omega arith
 sub-result : tie.Need-sub-result Inv-loop μ-loop
 sub-result c = omega arith
 
-returns : tie.Need-returns Inv-loop μ-loop
-returns c =
-    let b1 = c .before in
-    let b3 = b1 .before .before in
-    sym (long-last _ _ _ (b1 .end-of .ensures .0) (b3 .loop .inv .0) (b1 .end-of .ensures .1 .1) (c .if1 .taken)) ∙ b3 .loop .inv .1
-
-sub-if2 : tie.Need-sub-if2 Inv-loop μ-loop
-sub-if2 c = omega arith
-
 returns-2 : tie.Need-returns-2 Inv-loop μ-loop
 returns-2 c =
     let b1 = c .before in
+    let b3 = b1 .before .before in
+    sym (long-last _ _ _ (b1 .end-of .ensures .0) (b3 .loop .inv .0) (b1 .end-of .ensures .1 .1) (c .if2 .taken)) ∙ b3 .loop .inv .1
+
+sub-if3 : tie.Need-sub-if3 Inv-loop μ-loop
+sub-if3 c = omega arith
+
+returns-3 : tie.Need-returns-3 Inv-loop μ-loop
+returns-3 c =
+    let b1 = c .before in
     let b2 = b1 .before in
     let b4 = b2 .before .before in
-    sym (long-here _ _ _ (b2 .end-of .ensures .0) (b4 .loop .inv .0) (b1 .if1 .left) (omega arith)) ∙ b4 .loop .inv .1
+    sym (long-here _ _ _ (b2 .end-of .ensures .0) (b4 .loop .inv .0) (b1 .if2 .left) (omega arith)) ∙ b4 .loop .inv .1
 
 add-at : tie.Need-add-at Inv-loop μ-loop
 add-at c = omega arith
@@ -51,10 +54,10 @@ loop-again c =
     let b1 = c .before in
     let b2 = b1 .before in
     let b4 = b2 .before .before in
-    (omega arith, long-next _ _ _ (b2 .end-of .ensures .0) (b4 .loop .inv .0) (b1 .if1 .left) (omega arith) ∙ b4 .loop .inv .1)
+    (omega arith, long-next _ _ _ (b2 .end-of .ensures .0) (b4 .loop .inv .0) (b1 .if2 .left) (omega arith) ∙ b4 .loop .inv .1)
 
-returns-3 : tie.Need-returns-3 Inv-loop μ-loop
-returns-3 c =
+returns-4 : tie.Need-returns-4 Inv-loop μ-loop
+returns-4 c =
     let b1 = c .before in
     sym (long-end _ _ (c .loop-test .left)) ∙ b1 .loop .inv .1
 
@@ -64,13 +67,14 @@ any-long-spec =
     (tie.spec
     Inv-loop
     μ-loop
+    returns
     loop-holds
     end-of-requires
     sub-result
-    returns
-    sub-if2
     returns-2
+    sub-if3
+    returns-3
     add-at
     loop-less
     loop-again
-    returns-3)
+    returns-4)

@@ -25,7 +25,7 @@ returns c =
     let b21 = b14 .before .before .before .before .before .before .before in
     let b25 = b21 .before .before .before .before in
     let b40 = b25 .before .before .before .before .before .before .before .before .before .before .before .before .before .before .before in
-    table-is (b40 .args .w) (b40 .args .base .now) (b40 .args .names .now) (length (b40 .args .ln .now)) (b40 .args .r) (b40 .args .first .now) _ (b40 .pre .1 .0 .0) (b25 .start-words .kept .1 .1 .1 .1 .1 .0) (b25 .start-words .ensures) _ _ _ _ _ _ (b21 .size .ensures) (c .size2 .ensures) (b14 .settle .ensures .0 _ _ (b40 .pre .0)) (b14 .settle .ensures .1 .0 _ _ (b40 .pre .0)) (b14 .settle .ensures .1 .1 _ _ (b40 .pre .0))
+    table-is (b40 .args .w) (b40 .args .base .now) (b40 .args .names .now) (length (b40 .args .ln .now)) (b40 .args .r) (b40 .args .first .now) _ (b40 .pre .1 .0 .0) (b25 .start-words .ensures) _ _ _ _ _ _ (b21 .size .ensures) (c .size2 .ensures) (b14 .settle .ensures .0 _ _ (b40 .pre .0)) (b14 .settle .ensures .1 .0 _ _ (b40 .pre .0)) (b14 .settle .ensures .1 .1 _ _ (b40 .pre .0))
 
 pub table-spec : {M : Type 1} → statement M
 table-spec =
