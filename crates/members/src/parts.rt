@@ -56,7 +56,7 @@ pub fn mode_of(a: u64) -> usize
     16
 }
 
-// The lowest mode of a set; 0 where it is empty.
+// The lowest mode of a set that has one.
 pub fn first_mode(a: u64) -> u64
     requires { ⌜ a < 65536 ⌝ }
     ensures { λ m. ⌜ ((m ≤ 16) × (a / 2 ^ m < 2 ^ (16 - m))) × ((0 < a → a / 2 ^ m % 2 ≡ 1) × (modesFrom m (a / 2 ^ m) ≡ modesFrom 0 a)) ⌝ }
