@@ -23,21 +23,21 @@ pub fn goal_start(line: &[u8]) -> bool
 pub fn starts_right(s: &[u8], from: usize) -> bool
     ensures { λ r. ⌜ r ≡ startsRight (linesFrom (now (s .entry)) from) ⌝ }
 {
+    if s.len() <= from {
+        return true;
+    }
     let mut at = from;
-    while at < s.len() {
-        let e = end_of(10, s, at);
-        if s.len() <= e {
-            return true;
-        }
-        let next = e + 1;
-        let after = end_of(10, s, next);
+    let mut e = end_of(10, s, from);
+    while e < s.len() {
+        let after = end_of(10, s, e + 1);
         if s.len() <= after {
             return goal_start(&s[at..e]);
         }
         if !all_start(&s[at..e]) {
             return false;
         }
-        at = next;
+        at = e + 1;
+        e = after;
     }
     true
 }

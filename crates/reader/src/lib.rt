@@ -147,6 +147,10 @@ pub fn read_within(s: &[u8], most: usize, wide: usize) -> Reading
     requires { ⌜ (most ≤ 128) × (wide ≤ 12) ⌝ }
     ensures { λ r. ⌜ ReadIs most wide (now (s .entry)) r ⌝ }
 {
+    if s.len() <= 128 {
+        let mut nodes = [0u64; 128];
+        return read_in(s, most, wide, &mut nodes);
+    }
     if s.len() <= 256 {
         let mut nodes = [0u64; 256];
         return read_in(s, most, wide, &mut nodes);
