@@ -13,7 +13,7 @@ use Rattle.wordset.proofs.BitLaws.{bit-none}
 use Rattle.wordset.specs.Below.{anyBelow}
 use Rattle.wordset.specs.Word.{bit}
 use Rattle.wordset.specs.Words.{member, minus}
-use Rattle.truth.proofs.Joining.{any-take}
+use Rattle.truth.proofs.Joining.{any-take, swap}
 use Rattle.truth.proofs.ListWords.{minus-member}
 use Rattle.members.proofs.ModeLaws.{mode-bit}
 use Rattle.truth.proofs.Sifting.{less, less-bit, less-lt, lowest}
@@ -52,13 +52,6 @@ module _ {F : ℕ → ℕ → Bool} {w a : ℕ} {src : List ℕ} where
 
         R : ℕ → ℕ → Bool
         R t j = hasMode left j && F j t
-
-        swap : (a b c : Bool) → ((a && not b) && c) ≡ ((a && c) && not b)
-        swap true true true = refl
-        swap true true false = refl
-        swap true false true = refl
-        swap true false false = refl
-        swap false b c = refl
 
         out : (d f r : Bool) → ((d && not f) && not r) ≡ (d && not (f || r))
         out true true r = refl

@@ -17,6 +17,14 @@ use Rattle.wordset.specs.Answers.{Answers}
 use Rattle.wordset.specs.Below.{anyBelow, least}
 use Rattle.wordset.specs.Word.{bit}
 
+-- who is left out of some, and asked for besides
+pub swap : (a b c : Bool) → ((a && not b) && c) ≡ ((a && c) && not b)
+swap true true true = refl
+swap true true false = refl
+swap true false true = refl
+swap true false false = refl
+swap false b c = refl
+
 -- one number of several
 pub any-take : (P : ℕ → Bool) (n m : ℕ) → m < n → anyBelow n P ≡ (P m || anyBelow n (λ j. P j && not (eqb j m)))
 any-take P n m h =
@@ -61,13 +69,6 @@ module _ {P : ℕ → ℕ → Bool} {r k : ℕ} where
 
         R : ℕ → ℕ → Bool
         R t i = bit rest i && P i t
-
-        swap : (a b c : Bool) → ((a && not b) && c) ≡ ((a && c) && not b)
-        swap true true true = refl
-        swap true true false = refl
-        swap true false true = refl
-        swap true false false = refl
-        swap false b c = refl
 
     pub join-end : rest ≡ 0 → Answers (λ t. anyBelow 64 (λ i. bit r i && P i t)) k acc
     join-end e = record {

@@ -26,15 +26,6 @@ abbrev μ-loop : tie.MeasureT-loop
 at-goal : (c : tie.Start Inv-loop μ-loop) → c .args .goal * c .args .w + c .args .w ≤ length (c .args .tw .now)
 at-goal c = block-fits _ _ _ _ (c .pre .1 .0) (c .pre .0 .room)
 
-loop-holds : tie.Need-loop-holds Inv-loop μ-loop
-loop-holds c = none-start
-
-mul-x : tie.Need-mul-x Inv-loop μ-loop
-mul-x c = search needs
-
-shared-slice-read-x : tie.Need-shared-slice-read-x Inv-loop μ-loop
-shared-slice-read-x c = search needs
-
 mul-x-2 : tie.Need-mul-x-2 Inv-loop μ-loop
 mul-x-2 c =
     let b3 = c .before .before .before in
@@ -75,9 +66,6 @@ found c =
     (and-answers ((word-answers _ _ (c .before .before .shared-slice-known .given _ .fits))) ((start c .pre .0 .words _ (start c .pre .1 .0) _ (c .before .before .before .loop-test .taken))))
     (c .before .before .before .before .loop .inv) (c .before .before .before .loop-test .taken) (c .if1 .taken)
 
-cast-t20 : tie.Need-cast-t20 Inv-loop μ-loop
-cast-t20 c = omega (arith, found c .0)
-
 add-t21 : tie.Need-add-t21 Inv-loop μ-loop
 add-t21 c =
     let b5 = c .before .before .before .before .before in
@@ -85,12 +73,6 @@ add-t21 c =
 
 returns : tie.Need-returns Inv-loop μ-loop
 returns c = (let f = found c .0 in first-found _ _ _ _ (omega arith) (found c .1))
-
-add-k : tie.Need-add-k Inv-loop μ-loop
-add-k c = search needs
-
-loop-less : tie.Need-loop-less Inv-loop μ-loop
-loop-less c = search needs
 
 loop-again : tie.Need-loop-again Inv-loop μ-loop
 loop-again c =
@@ -111,18 +93,18 @@ goal-type-spec =
     (tie.spec
     Inv-loop
     μ-loop
-    loop-holds
-    mul-x
-    shared-slice-read-x
+    (λ c. none-start)
+    (λ c. search needs)
+    (λ c. search needs)
     mul-x-2
     add-x
     mul-x-3
     shared-slice-read-x-2
     mul-t18
-    cast-t20
+    (λ c. omega (arith, found c .0))
     add-t21
     returns
-    add-k
-    loop-less
+    (λ c. search needs)
+    (λ c. search needs)
     loop-again
     returns-2)

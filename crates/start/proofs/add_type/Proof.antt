@@ -10,15 +10,6 @@ use Rattle.start.proofs.Starting.{join-none, join-one}
 use Rattle.start.proofs.add_type.Statement.{statement}
 use Rattle.start.proofs.add_type.Tie as tie
 
-mul-contains : tie.Need-mul-contains
-mul-contains c = search needs
-
-add-contains : tie.Need-add-contains
-add-contains c = search needs
-
-contains-requires : tie.Need-contains-requires
-contains-requires c κs = search needs
-
 returns : tie.Need-returns
 returns c =
     let b2 = c .before .before in
@@ -26,27 +17,6 @@ returns c =
     let a = b5 .args in
     join-none (λ u. member (a .base .now) (a .w * 64 + u)) (obeysBy (a .names .now) (a .n) (a .r)) (a .dst .now) (a .w) (a .t) (b5 .pre .1 .1 .1 .0) (λ i h. b2 .slice-known .given i .fits)
     (ap (λ b. b && obeysBy (a .names .now) (a .n) (a .r) (a .t)) (sym (c .before .contains .ensures) ∙ not-true _ (c .if1 .taken)))
-
-obeys-requires : tie.Need-obeys-requires
-obeys-requires c κs = search needs
-
-mul-dst : tie.Need-mul-dst
-mul-dst c = search needs
-
-slice-read-dst : tie.Need-slice-read-dst
-slice-read-dst c = search needs
-
-shl-dst : tie.Need-shl-dst
-shl-dst c = search needs
-
-mul-dst-2 : tie.Need-mul-dst-2
-mul-dst-2 c = search needs
-
-slice-write-dst : tie.Need-slice-write-dst
-slice-write-dst c = search needs
-
-same-length : tie.Need-same-length
-same-length c = search needs
 
 returns-2 : tie.Need-returns-2
 returns-2 c =
@@ -70,16 +40,16 @@ pub add-type-spec : {M : Type 1} → statement M
 add-type-spec =
     tie.close
     (tie.spec
-    mul-contains
-    add-contains
-    contains-requires
+    (λ c. search needs)
+    (λ c. search needs)
+    (λ c κs. search needs)
     returns
-    obeys-requires
-    mul-dst
-    slice-read-dst
-    shl-dst
-    mul-dst-2
-    slice-write-dst
-    same-length
+    (λ c κs. search needs)
+    (λ c. search needs)
+    (λ c. search needs)
+    (λ c. search needs)
+    (λ c. search needs)
+    (λ c. search needs)
+    (λ c. search needs)
     returns-2
     returns-3)

@@ -17,12 +17,6 @@ Inv-loop ms ln tw w globals values k acc₀ i₀ acc i = Met (λ j t. trueAt ms 
 abbrev μ-loop : tie.MeasureT-loop
 μ-loop ms ln tw w globals values k acc₀ i₀ acc i = length globals - i
 
-loop-holds : tie.Need-loop-holds Inv-loop μ-loop
-loop-holds c = meet-start
-
-shared-slice-read-g : tie.Need-shared-slice-read-g Inv-loop μ-loop
-shared-slice-read-g c = search needs
-
 cast-g : tie.Need-cast-g Inv-loop μ-loop
 cast-g c = omega (arith, c .shared-slice-known6 .given (c .before .before .loop .i))
 
@@ -33,24 +27,6 @@ g-at : (c : tie.After-shared-slice-known6 Inv-loop μ-loop) → getD (start c .a
 g-at c =
     let p = start c .pre in
     slot _ _ _ _ _ (p .1 .1 .0 _ (c .before .loop-test .taken)) (p .0 .room) (p .1 .0 .0)
-
-mul-acc : tie.Need-mul-acc Inv-loop μ-loop
-mul-acc c = omega (arith, g-at c)
-
-add-acc : tie.Need-add-acc Inv-loop μ-loop
-add-acc c = omega (arith, g-at c)
-
-mul-acc-2 : tie.Need-mul-acc-2 Inv-loop μ-loop
-mul-acc-2 c = omega (arith, g-at c)
-
-shared-slice-read-acc : tie.Need-shared-slice-read-acc Inv-loop μ-loop
-shared-slice-read-acc c = g-at (c .before)
-
-add-i : tie.Need-add-i Inv-loop μ-loop
-add-i c = search needs
-
-loop-less : tie.Need-loop-less Inv-loop μ-loop
-loop-less c = search needs
 
 loop-again : tie.Need-loop-again Inv-loop μ-loop
 loop-again c =
@@ -78,15 +54,15 @@ base-word-spec =
     (tie.spec
     Inv-loop
     μ-loop
-    loop-holds
-    shared-slice-read-g
+    (λ c. meet-start)
+    (λ c. search needs)
     cast-g
-    mul-acc
-    add-acc
-    mul-acc-2
-    shared-slice-read-acc
-    add-i
-    loop-less
+    (λ c. omega (arith, g-at c))
+    (λ c. omega (arith, g-at c))
+    (λ c. omega (arith, g-at c))
+    (λ c. g-at (c .before))
+    (λ c. search needs)
+    (λ c. search needs)
     loop-again
     low-word-requires
     one-word-requires

@@ -15,9 +15,6 @@ Inv-loop ms ln tw w globals values names base₀ k₀ base k = Halved (λ t. inB
 abbrev μ-loop : tie.MeasureT-loop
 μ-loop ms ln tw w globals values names base₀ k₀ base k = w - k
 
-loop-holds : tie.Need-loop-holds Inv-loop μ-loop
-loop-holds c = halved-start
-
 base-word-requires : tie.Need-base-word-requires Inv-loop μ-loop
 base-word-requires c κs =
     let p = c .before .before .before .before .before .before .before .before .before .pre in
@@ -28,28 +25,10 @@ free-word-requires c κs =
     let p = c .before .before .before .before .before .before .before .before .before .before .pre .1 .1 .1 .1 in
     λ i h. (let l = p .within i h in let n = p .narrow in omega arith)
 
-mul-base : tie.Need-mul-base Inv-loop μ-loop
-mul-base c = search needs
-
-slice-write-base : tie.Need-slice-write-base Inv-loop μ-loop
-slice-write-base c = search needs
-
-add-base : tie.Need-add-base Inv-loop μ-loop
-add-base c = search needs
-
-mul-base-2 : tie.Need-mul-base-2 Inv-loop μ-loop
-mul-base-2 c = search needs
-
 slice-write-base-2 : tie.Need-slice-write-base-2 Inv-loop μ-loop
 slice-write-base-2 c =
     let b3 = c .before .before .before in
     second-at (b3 .loop .inv) (c .before .before .loop-test .taken) (b3 .before .before .before .before .before .before .before .before .pre .1 .0) _
-
-add-k : tie.Need-add-k Inv-loop μ-loop
-add-k c = search needs
-
-loop-less : tie.Need-loop-less Inv-loop μ-loop
-loop-less c = search needs
 
 loop-again : tie.Need-loop-again Inv-loop μ-loop
 loop-again c =
@@ -57,9 +36,6 @@ loop-again c =
     let b4 = b3 .before in
     let b11 = b4 .before .before .before .before .before .before .before in
     halved-on (b3 .loop .inv) (c .before .before .loop-test .taken) (b11 .pre .1 .0) (and-answers (c .before .base-word .ensures) (c .free-word .ensures)) (minus-answers (c .before .base-word .ensures) (c .free-word .ensures))
-
-same-length : tie.Need-same-length Inv-loop μ-loop
-same-length c = c .before .loop .inv .long
 
 returns : tie.Need-returns Inv-loop μ-loop
 returns c =
@@ -72,16 +48,16 @@ base-words-spec =
     (tie.spec
     Inv-loop
     μ-loop
-    loop-holds
+    (λ c. halved-start)
     base-word-requires
     free-word-requires
-    mul-base
-    slice-write-base
-    add-base
-    mul-base-2
+    (λ c. search needs)
+    (λ c. search needs)
+    (λ c. search needs)
+    (λ c. search needs)
     slice-write-base-2
-    add-k
-    loop-less
+    (λ c. search needs)
+    (λ c. search needs)
     loop-again
-    same-length
+    (λ c. c .before .loop .inv .long)
     returns)

@@ -10,12 +10,6 @@ use Rattle.start.specs.Starts.{namedType}
 use Rattle.start.proofs.fits_name.Statement.{statement}
 use Rattle.start.proofs.fits_name.Tie as tie
 
-shr-if1 : tie.Need-shr-if1
-shr-if1 c = search needs
-
-named-type-requires : tie.Need-named-type-requires
-named-type-requires c κs = search needs
-
 returns : tie.Need-returns
 unfolding bit
 returns c =
@@ -29,4 +23,4 @@ returns-2 c =
     sym (ap (λ b. imp b (eqb (a .t) (namedType (a .v) (a .n) (a .r) (a .i)))) (sym (test-bit (a .t) (a .v)) ∙ ne-eqb _ _ (c .if1 .left)))
 
 pub fits-name-spec : {M : Type 1} → statement M
-fits-name-spec = tie.close (tie.spec shr-if1 named-type-requires returns returns-2)
+fits-name-spec = tie.close (tie.spec (λ c. search needs) (λ c κs. search needs) returns returns-2)

@@ -17,23 +17,11 @@ Inv-loop names k acc₀ i₀ acc i = Met (λ j t. not (inType t (getD names j 0)
 abbrev μ-loop : tie.MeasureT-loop
 μ-loop names k acc₀ i₀ acc i = length names - i
 
-loop-holds : tie.Need-loop-holds Inv-loop μ-loop
-loop-holds c = meet-start
-
-shared-slice-read-place-word : tie.Need-shared-slice-read-place-word Inv-loop μ-loop
-shared-slice-read-place-word c = search needs
-
 cast-place-word : tie.Need-cast-place-word Inv-loop μ-loop
 cast-place-word c = omega (arith, c .shared-slice-known2 .given (c .before .before .loop .i))
 
 place-word-requires : tie.Need-place-word-requires Inv-loop μ-loop
 place-word-requires c κs = c .before .before .before .before .pre _ (c .before .loop-test .taken)
-
-add-i : tie.Need-add-i Inv-loop μ-loop
-add-i c = search needs
-
-loop-less : tie.Need-loop-less Inv-loop μ-loop
-loop-less c = search needs
 
 loop-again : tie.Need-loop-again Inv-loop μ-loop
 loop-again c = meet-on (c .before .before .before .loop .inv) (c .before .before .loop-test .taken) (word-not (c .place-word .ensures))
@@ -48,11 +36,11 @@ free-word-spec =
     (tie.spec
     Inv-loop
     μ-loop
-    loop-holds
-    shared-slice-read-place-word
+    (λ c. meet-start)
+    (λ c. search needs)
     cast-place-word
     place-word-requires
-    add-i
-    loop-less
+    (λ c. search needs)
+    (λ c. search needs)
     loop-again
     returns)

@@ -5,35 +5,17 @@ use Rattle.start.proofs.NamedNumbers.{digit-at, high-lt, mask-pos, sum-
 use Rattle.start.proofs.named_type.Statement.{statement}
 use Rattle.start.proofs.named_type.Tie as tie
 
-sub-c : tie.Need-sub-c
-sub-c c = search needs
-
 mul-d : tie.Need-mul-d
 mul-d c = let s = digit-at (c .args .n) (c .args .i) (c .pre .1 .0) (c .pre .1 .1) in omega arith
 
 shr-d : tie.Need-shr-d
 shr-d c = let s = digit-at (c .args .n) (c .args .i) (c .pre .1 .0) (c .pre .1 .1) in omega arith
 
-shl-d : tie.Need-shl-d
-shl-d c = search needs
-
-rem-d : tie.Need-rem-d
-rem-d c = mask-pos _ (let h = c .pre .1 .0 in omega arith)
-
-shr-high : tie.Need-shr-high
-shr-high c = search needs
-
 mul-high : tie.Need-mul-high
 mul-high c = let s = high-lt (c .args .v) (c .args .n) (c .args .r) (c .args .i) (c .pre .0) (c .pre .1 .0) in omega arith
 
 add-high : tie.Need-add-high
 add-high c = let s = high-lt (c .args .v) (c .args .n) (c .args .r) (c .args .i) (c .pre .0) (c .pre .1 .0) in omega arith
-
-shl-high : tie.Need-shl-high
-shl-high c = search needs
-
-shl-result : tie.Need-shl-result
-shl-result c = search needs
 
 rem-result : tie.Need-rem-result
 rem-result c = mask-pos _ (let h = c .pre .0 in let g = c .pre .1 .0 in omega arith)
@@ -48,16 +30,16 @@ pub named-type-spec : {M : Type 1} → statement M
 named-type-spec =
     tie.close
     (tie.spec
-    sub-c
+    (λ c. search needs)
     mul-d
     shr-d
-    shl-d
-    rem-d
-    shr-high
+    (λ c. search needs)
+    (λ c. mask-pos _ (let h = c .pre .1 .0 in omega arith))
+    (λ c. search needs)
     mul-high
     add-high
-    shl-high
-    shl-result
+    (λ c. search needs)
+    (λ c. search needs)
     rem-result
     add-result
     returns)

@@ -17,12 +17,6 @@ Inv-loop names n r t i₀ i = AllSoFar (λ j. fitsName (getD names j 0) n r j t)
 abbrev μ-loop : tie.MeasureT-loop
 μ-loop names n r t i₀ i = length names - i
 
-loop-holds : tie.Need-loop-holds Inv-loop μ-loop
-loop-holds c = all-start
-
-shared-slice-read-fits-name : tie.Need-shared-slice-read-fits-name Inv-loop μ-loop
-shared-slice-read-fits-name c = search needs
-
 cast-fits-name : tie.Need-cast-fits-name Inv-loop μ-loop
 cast-fits-name c = omega (arith, c .shared-slice-known2 .given (c .before .before .loop .i))
 
@@ -38,12 +32,6 @@ returns c =
     let a = c .before .before .before .before .before .before .args in
     sym (all-false (λ j. fitsName (getD (a .names .now) j 0) (a .n) (a .r) j (a .t)) (length (a .names .now)) _ (c .before .before .before .loop-test .taken) (sym (c .before .fits-name .ensures) ∙ not-true _ (c .if1 .taken)))
 
-add-i : tie.Need-add-i Inv-loop μ-loop
-add-i c = search needs
-
-loop-less : tie.Need-loop-less Inv-loop μ-loop
-loop-less c = search needs
-
 loop-again : tie.Need-loop-again Inv-loop μ-loop
 loop-again c = all-on (c .before .before .before .before .loop .inv) (c .before .before .before .loop-test .taken) (sym (c .before .fits-name .ensures) ∙ not-false _ (c .if1 .left))
 
@@ -57,12 +45,12 @@ obeys-spec =
     (tie.spec
     Inv-loop
     μ-loop
-    loop-holds
-    shared-slice-read-fits-name
+    (λ c. all-start)
+    (λ c. search needs)
     cast-fits-name
     fits-name-requires
     returns
-    add-i
-    loop-less
+    (λ c. search needs)
+    (λ c. search needs)
     loop-again
     returns-2)

@@ -14,26 +14,11 @@ Inv-loop values k once₀ twice₀ i₀ once twice i = Counted (λ j t. inType t
 abbrev μ-loop : tie.MeasureT-loop
 μ-loop values k once₀ twice₀ i₀ once twice i = length values - i
 
-returns : tie.Need-returns Inv-loop μ-loop
-returns c = one-none _ (c .if1 .taken)
-
-loop-holds : tie.Need-loop-holds Inv-loop μ-loop
-loop-holds c = counted-start
-
-shared-slice-read-place-word : tie.Need-shared-slice-read-place-word Inv-loop μ-loop
-shared-slice-read-place-word c = search needs
-
 cast-place-word : tie.Need-cast-place-word Inv-loop μ-loop
 cast-place-word c = omega (arith, c .shared-slice-known2 .given (c .before .before .loop .i))
 
 place-word-requires : tie.Need-place-word-requires Inv-loop μ-loop
 place-word-requires c κs = c .before .before .before .before .before .pre _ (c .before .loop-test .taken)
-
-add-i : tie.Need-add-i Inv-loop μ-loop
-add-i c = search needs
-
-loop-less : tie.Need-loop-less Inv-loop μ-loop
-loop-less c = search needs
 
 loop-again : tie.Need-loop-again Inv-loop μ-loop
 loop-again c = counted-on (c .before .before .before .loop .inv) (c .before .before .loop-test .taken) (c .place-word .ensures)
@@ -47,12 +32,12 @@ one-word-spec =
     (tie.spec
     Inv-loop
     μ-loop
-    returns
-    loop-holds
-    shared-slice-read-place-word
+    (λ c. one-none _ (c .if1 .taken))
+    (λ c. counted-start)
+    (λ c. search needs)
     cast-place-word
     place-word-requires
-    add-i
-    loop-less
+    (λ c. search needs)
+    (λ c. search needs)
     loop-again
     returns-2)

@@ -27,9 +27,6 @@ loop-holds c =
     let a = b7 .args in
     started-first (a .w) (a .base .now) (a .names .now) (a .n) (a .r) (let k = b2 .copy .kept .0 in let h = b7 .pre .1 .1 .1 .1 in omega arith) _ (b7 .pre .1 .1 .1 .1) (b2 .copy .ensures)
 
-shared-slice-read-named-type : tie.Need-shared-slice-read-named-type Inv-loop μ-loop
-shared-slice-read-named-type c = search needs
-
 cast-named-type : tie.Need-cast-named-type Inv-loop μ-loop
 cast-named-type c = omega (arith, c .shared-slice-known3 .given (c .before .before .loop .i))
 
@@ -95,7 +92,7 @@ start-words-spec =
     μ-loop
     copy-requires
     loop-holds
-    shared-slice-read-named-type
+    (λ c. search needs)
     cast-named-type
     named-type-requires
     add-type-requires

@@ -8,24 +8,6 @@ use Rattle.truth.proofs.BlockLaws.{tail}
 use Rattle.truth.proofs.bit_at.Statement.{statement}
 use Rattle.truth.proofs.bit_at.Tie as tie
 
-mul-at : tie.Need-mul-at
-mul-at c = search needs
-
-mul-contains : tie.Need-mul-contains
-mul-contains c = search needs
-
-sub-contains : tie.Need-sub-contains
-sub-contains c = search needs
-
-part-contains-start : tie.Need-part-contains-start
-part-contains-start c = search needs
-
-part-contains-end : tie.Need-part-contains-end
-part-contains-end c = search needs
-
-contains-requires : tie.Need-contains-requires
-contains-requires c κs = search needs
-
 returns : tie.Need-returns
 unfolding has
 returns c =
@@ -36,10 +18,10 @@ pub bit-at-spec : {M : Type 1} → statement M
 bit-at-spec =
     tie.close
     (tie.spec
-    mul-at
-    mul-contains
-    sub-contains
-    part-contains-start
-    part-contains-end
-    contains-requires
+    (λ c. search needs)
+    (λ c. search needs)
+    (λ c. search needs)
+    (λ c. search needs)
+    (λ c. search needs)
+    (λ c κs. search needs)
     returns)

@@ -15,12 +15,6 @@ Inv-loop ms ln g a b k₀ k = NotYet (λ j. modal (getD ms (getD ln j 0) 0) g a 
 abbrev μ-loop : tie.MeasureT-loop
 μ-loop ms ln g a b k₀ k = length ln - k
 
-loop-holds : tie.Need-loop-holds Inv-loop μ-loop
-loop-holds c = yet-start
-
-shared-slice-read-is-modal : tie.Need-shared-slice-read-is-modal Inv-loop μ-loop
-shared-slice-read-is-modal c = search needs
-
 cast-is-modal : tie.Need-cast-is-modal Inv-loop μ-loop
 cast-is-modal c = omega (arith, c .shared-slice-known3 .given (c .before .before .loop .k))
 
@@ -32,20 +26,11 @@ shared-slice-read-is-modal-2 c =
     let b6 = c .before .before .before .before .before .before in
     b6 .pre .inside (c .before .before .before .loop .k) (omega arith)
 
-is-modal-requires : tie.Need-is-modal-requires Inv-loop μ-loop
-is-modal-requires c κs = search needs
-
 returns : tie.Need-returns Inv-loop μ-loop
 unfolding placeOf
 returns c =
     let b5 = c .before .before .before .before .before in
     yet-found (b5 .loop .inv) (omega arith) (sym (c .before .is-modal .ensures) ∙ c .if1 .taken)
-
-add-k : tie.Need-add-k Inv-loop μ-loop
-add-k c = search needs
-
-loop-less : tie.Need-loop-less Inv-loop μ-loop
-loop-less c = search needs
 
 loop-again : tie.Need-loop-again Inv-loop μ-loop
 loop-again c =
@@ -62,14 +47,14 @@ find-place-spec =
     (tie.spec
     Inv-loop
     μ-loop
-    loop-holds
-    shared-slice-read-is-modal
+    (λ c. yet-start)
+    (λ c. search needs)
     cast-is-modal
     mul-is-modal
     shared-slice-read-is-modal-2
-    is-modal-requires
+    (λ c κs. search needs)
     returns
-    add-k
-    loop-less
+    (λ c. search needs)
+    (λ c. search needs)
     loop-again
     returns-2)

@@ -18,29 +18,11 @@ Inv-loop ms g i₀ i = NotYet (λ j. eqb (tagAt ms j) g) (length ms) i
 abbrev μ-loop : tie.MeasureT-loop
 μ-loop ms g i₀ i = length ms - i
 
-loop-holds : tie.Need-loop-holds Inv-loop μ-loop
-loop-holds c = yet-start
-
-mul-tag : tie.Need-mul-tag Inv-loop μ-loop
-mul-tag c = search needs
-
-shared-slice-read-tag : tie.Need-shared-slice-read-tag Inv-loop μ-loop
-shared-slice-read-tag c = search needs
-
-tag-requires : tie.Need-tag-requires Inv-loop μ-loop
-tag-requires c κs = search needs
-
 returns : tie.Need-returns Inv-loop μ-loop
 unfolding plain
 returns c =
     let b4 = c .before .before .before .before in
     yet-found (b4 .loop .inv) (omega arith) (eq-eqb _ _ (sym (c .before .tag .ensures) ∙ c .if1 .taken))
-
-add-i : tie.Need-add-i Inv-loop μ-loop
-add-i c = search needs
-
-loop-less : tie.Need-loop-less Inv-loop μ-loop
-loop-less c = search needs
 
 loop-again : tie.Need-loop-again Inv-loop μ-loop
 loop-again c =
@@ -57,12 +39,12 @@ find-plain-spec =
     (tie.spec
     Inv-loop
     μ-loop
-    loop-holds
-    mul-tag
-    shared-slice-read-tag
-    tag-requires
+    (λ c. yet-start)
+    (λ c. search needs)
+    (λ c. search needs)
+    (λ c κs. search needs)
     returns
-    add-i
-    loop-less
+    (λ c. search needs)
+    (λ c. search needs)
     loop-again
     returns-2)

@@ -6,20 +6,11 @@ use Rattle.truth.proofs.TruthLaws.{modal-left, modal-no-arg, modal-no-t
 use Rattle.truth.proofs.is_modal.Statement.{statement}
 use Rattle.truth.proofs.is_modal.Tie as tie
 
-tag-requires : tie.Need-tag-requires
-tag-requires c κs = search needs
-
 returns : tie.Need-returns
 returns c = modal-no-tag _ _ _ _ (λ e. c .if1 .taken (c .before .tag .ensures ∙ e))
 
-arg-requires : tie.Need-arg-requires
-arg-requires c κs = search needs
-
 returns-2 : tie.Need-returns-2
 returns-2 c = modal-no-arg _ _ _ _ (sym (c .before .before .before .tag .ensures) ∙ c .before .before .if1 .left) (λ e. c .if2 .taken (c .before .arg .ensures ∙ e))
-
-left-requires : tie.Need-left-requires
-left-requires c κs = search needs
 
 returns-3 : tie.Need-returns-3
 returns-3 c =
@@ -29,4 +20,4 @@ returns-3 c =
 
 pub is-modal-spec : {M : Type 1} → statement M
 is-modal-spec =
-    tie.close (tie.spec tag-requires returns arg-requires returns-2 left-requires returns-3)
+    tie.close (tie.spec (λ c κs. search needs) returns (λ c κs. search needs) returns-2 (λ c κs. search needs) returns-3)

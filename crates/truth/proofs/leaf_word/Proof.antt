@@ -8,15 +8,6 @@ use Rattle.truth.proofs.TruthWords.{leaf-lit, leaf-nlit, place-small}
 use Rattle.truth.proofs.leaf_word.Statement.{statement}
 use Rattle.truth.proofs.leaf_word.Tie as tie
 
-mul-x : tie.Need-mul-x
-mul-x c = search needs
-
-shared-slice-read-x : tie.Need-shared-slice-read-x
-shared-slice-read-x c = search needs
-
-tag-requires : tie.Need-tag-requires
-tag-requires c κs = search needs
-
 returns : tie.Need-returns
 returns c =
     let b5 = c .before .before .before .before .before in
@@ -26,12 +17,6 @@ returns-2 : tie.Need-returns-2
 returns-2 c =
     let b6 = c .before .before .before .before .before .before in
     word-as (λ u. truth-1 (b6 .pre .0) (b6 .pre .1 .0) _ (b6 .pre .1 .1 .0) u (sym (c .before .before .tag .ensures) ∙ c .if2 .taken)) word-none
-
-arg-requires : tie.Need-arg-requires
-arg-requires c κs = search needs
-
-find-place-requires : tie.Need-find-place-requires
-find-place-requires c κs = search needs
 
 place-word-requires : tie.Need-place-word-requires
 place-word-requires c κs =
@@ -55,13 +40,13 @@ pub leaf-word-spec : {M : Type 1} → statement M
 leaf-word-spec =
     tie.close
     (tie.spec
-    mul-x
-    shared-slice-read-x
-    tag-requires
+    (λ c. search needs)
+    (λ c. search needs)
+    (λ c κs. search needs)
     returns
     returns-2
-    arg-requires
-    find-place-requires
+    (λ c κs. search needs)
+    (λ c κs. search needs)
     place-word-requires
     returns-3
     returns-4)

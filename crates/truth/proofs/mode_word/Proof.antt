@@ -7,19 +7,10 @@ use Rattle.truth.proofs.TruthWords.{mode-ax, mode-ex, mode-none, place-
 use Rattle.truth.proofs.mode_word.Statement.{statement}
 use Rattle.truth.proofs.mode_word.Tie as tie
 
-has-mode-requires : tie.Need-has-mode-requires
-has-mode-requires c κs = search needs
-
 returns : tie.Need-returns
 returns c =
     let b4 = c .before .before .before .before in
     mode-none (b4 .args .ms .now) (b4 .args .ln .now) (b4 .args .a) (b4 .args .m) (b4 .args .b) (b4 .args .idx) (b4 .args .n) (sym (c .before .has-mode .ensures) ∙ not-true _ (c .if1 .taken))
-
-shl-find-place : tie.Need-shl-find-place
-shl-find-place c = search needs
-
-find-place-requires : tie.Need-find-place-requires
-find-place-requires c κs = search needs
 
 place-word-requires : tie.Need-place-word-requires
 place-word-requires c κs =
@@ -31,12 +22,6 @@ returns-2 c =
     let b4 = c .before .before .before .before in
     let b7 = b4 .before .before .before in
     mode-ax (b7 .args .ms .now) (b7 .args .ln .now) (b7 .args .a) (b7 .args .m) (b7 .args .b) (b7 .args .idx) (b7 .args .n) _ _ (omega arith) (c .before .before .if2 .taken) (sym (b4 .has-mode .ensures) ∙ not-false _ (c .before .before .before .if1 .left)) (c .before .find-place .ensures) (c .place-word .ensures)
-
-shl-find-place-2 : tie.Need-shl-find-place-2
-shl-find-place-2 c = search needs
-
-find-place-requires-2 : tie.Need-find-place-requires-2
-find-place-requires-2 c κs = search needs
 
 place-word-requires-2 : tie.Need-place-word-requires-2
 place-word-requires-2 c κs =
@@ -53,13 +38,13 @@ pub mode-word-spec : {M : Type 1} → statement M
 mode-word-spec =
     tie.close
     (tie.spec
-    has-mode-requires
+    (λ c κs. search needs)
     returns
-    shl-find-place
-    find-place-requires
+    (λ c. search needs)
+    (λ c κs. search needs)
     place-word-requires
     returns-2
-    shl-find-place-2
-    find-place-requires-2
+    (λ c. search needs)
+    (λ c κs. search needs)
     place-word-requires-2
     returns-3)

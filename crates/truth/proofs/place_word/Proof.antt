@@ -9,18 +9,6 @@ use Rattle.truth.proofs.PlaceWords.{high-full, high-none, low-word}
 use Rattle.truth.proofs.place_word.Statement.{statement}
 use Rattle.truth.proofs.place_word.Tie as tie
 
-mul-result : tie.Need-mul-result
-mul-result c = search needs
-
-array-read-result : tie.Need-array-read-result
-array-read-result c = search needs
-
-returns : tie.Need-returns
-returns c = low-word _ _ (c .if1 .taken)
-
-shr-if2 : tie.Need-shr-if2
-shr-if2 c = search needs
-
 returns-2 : tie.Need-returns-2
 unfolding bit
 returns-2 c =
@@ -35,4 +23,4 @@ returns-3 c =
 
 pub place-word-spec : {M : Type 1} → statement M
 place-word-spec =
-    tie.close (tie.spec mul-result array-read-result returns shr-if2 returns-2 returns-3)
+    tie.close (tie.spec (λ c. search needs) (λ c. search needs) (λ c. low-word _ _ (c .if1 .taken)) (λ c. search needs) returns-2 returns-3)

@@ -20,9 +20,6 @@ abbrev μ-loop : tie.MeasureT-loop
 low : (c : tie.In-loop Inv-loop μ-loop) → trailingZeros 64 (c .before .loop .rest) < 16
 low c = (let h = c .before .loop .inv .1 in lowest 16 _ (omega arith) (omega arith) (c .loop-test .taken) .0)
 
-loop-less : tie.Need-loop-less Inv-loop μ-loop
-loop-less c = less-lt _ (c .before .loop-test .taken)
-
 loop-again : tie.Need-loop-again Inv-loop μ-loop
 loop-again c =
     let s = c .before .before .loop .inv in
@@ -46,6 +43,6 @@ some-mode-spec =
     (λ c. (let l = low c in omega arith))
     (λ c κs. (c .before .before .before .before .pre, low c))
     (λ c. (let n = c .before .loop-test .taken in omega arith))
-    loop-less
+    (λ c. less-lt _ (c .before .loop-test .taken))
     loop-again
     returns)

@@ -10,44 +10,17 @@ use Rattle.truth.proofs.TruthWords.{join-and, join-or, left-word, next-
 use Rattle.truth.proofs.truth_word.Statement.{statement}
 use Rattle.truth.proofs.truth_word.Tie as tie
 
-mul-x : tie.Need-mul-x
-mul-x c = search needs
-
-shared-slice-read-x : tie.Need-shared-slice-read-x
-shared-slice-read-x c = search needs
-
-tag-requires : tie.Need-tag-requires
-tag-requires c κs = search needs
-
 leaf-word-requires : tie.Need-leaf-word-requires
 leaf-word-requires c κs =
     let b1 = c .before in
     let b6 = b1 .before .before .before .before .before in
     (b6 .pre .0, (b6 .pre .1 .0, (b6 .pre .1 .1 .0 .0, (let g = b1 .tag .ensures in omega arith))))
 
-returns : tie.Need-returns
-returns c = search needs
-
-left-requires : tie.Need-left-requires
-left-requires c κs = search needs
-
-arg-requires : tie.Need-arg-requires
-arg-requires c κs = search needs
-
-some-mode-requires : tie.Need-some-mode-requires
-some-mode-requires c κs = search needs
-
 returns-2 : tie.Need-returns-2
 returns-2 c =
     let b5 = c .before .before .before .before .before in
     let b10 = b5 .before .before .before .before .before in
     next-ex (b10 .pre .0) (b10 .pre .1 .0) _ (b10 .pre .1 .1 .0 .0) _ _ _ (c .before .arg .ensures) (c .before .before .before .left .ensures) (sym (b5 .tag .ensures) ∙ c .before .before .if2 .taken) (c .some-mode .ensures)
-
-arg-requires-2 : tie.Need-arg-requires-2
-arg-requires-2 c κs = search needs
-
-some-mode-requires-2 : tie.Need-some-mode-requires-2
-some-mode-requires-2 c κs = search needs
 
 returns-3 : tie.Need-returns-3
 returns-3 c =
@@ -66,21 +39,6 @@ left-at c =
     let b9 = b4 .before .before .before .before .before in
     slot _ _ _ _ _ (let b : b2 .left .result < b9 .args .i = (let o = b9 .pre .0 .operands _ (b9 .pre .1 .1 .0 .0) (let g = b4 .tag .ensures in let k = c .before .before .before .if1 .left in omega arith) in let e = b2 .left .ensures in let b = o .0 in omega arith) in let h = b9 .pre .1 .1 .0 .0 in omega arith) (b9 .pre .1 .1 .0 .1) (b9 .pre .1 .1 .0 .2)
 
-mul-p : tie.Need-mul-p
-mul-p c = omega (arith, left-at c)
-
-add-p : tie.Need-add-p
-add-p c = omega (arith, left-at c)
-
-mul-p-2 : tie.Need-mul-p-2
-mul-p-2 c = omega (arith, left-at c)
-
-shared-slice-read-p : tie.Need-shared-slice-read-p
-shared-slice-read-p c = left-at (c .before)
-
-right-requires : tie.Need-right-requires
-right-requires c κs = search needs
-
 abbrev start2 : tie.After-right → tie.Start
 start2 c = c .before .before .before .before .before .before .before .before .before .before .before
 
@@ -90,18 +48,6 @@ right-at c =
     let b6 = b5 .before in
     let b11 = b6 .before .before .before .before .before in
     slot _ _ _ _ _ (let b : c .right .result < b11 .args .i = (let o = b11 .pre .0 .operands _ (b11 .pre .1 .1 .0 .0) (let g = b6 .tag .ensures in let k = b5 .if1 .left in omega arith) in let e = c .right .ensures in let b = o .1 in omega arith) in let h = b11 .pre .1 .1 .0 .0 in omega arith) (b11 .pre .1 .1 .0 .1) (b11 .pre .1 .1 .0 .2)
-
-mul-q : tie.Need-mul-q
-mul-q c = omega (arith, right-at c)
-
-add-q : tie.Need-add-q
-add-q c = omega (arith, right-at c)
-
-mul-q-2 : tie.Need-mul-q-2
-mul-q-2 c = omega (arith, right-at c)
-
-shared-slice-read-q : tie.Need-shared-slice-read-q
-shared-slice-read-q c = right-at (c .before)
 
 returns-4 : tie.Need-returns-4
 returns-4 c =
@@ -151,35 +97,32 @@ until-word-requires c κs =
       ),
     )
 
-returns-6 : tie.Need-returns-6
-returns-6 c = search needs
-
 pub truth-word-spec : {M : Type 1} → statement M
 truth-word-spec =
     tie.close
     (tie.spec
-    mul-x
-    shared-slice-read-x
-    tag-requires
+    (λ c. search needs)
+    (λ c. search needs)
+    (λ c κs. search needs)
     leaf-word-requires
-    returns
-    left-requires
-    arg-requires
-    some-mode-requires
+    (λ c. search needs)
+    (λ c κs. search needs)
+    (λ c κs. search needs)
+    (λ c κs. search needs)
     returns-2
-    arg-requires-2
-    some-mode-requires-2
+    (λ c κs. search needs)
+    (λ c κs. search needs)
     returns-3
-    mul-p
-    add-p
-    mul-p-2
-    shared-slice-read-p
-    right-requires
-    mul-q
-    add-q
-    mul-q-2
-    shared-slice-read-q
+    (λ c. omega (arith, left-at c))
+    (λ c. omega (arith, left-at c))
+    (λ c. omega (arith, left-at c))
+    (λ c. left-at (c .before))
+    (λ c κs. search needs)
+    (λ c. omega (arith, right-at c))
+    (λ c. omega (arith, right-at c))
+    (λ c. omega (arith, right-at c))
+    (λ c. right-at (c .before))
     returns-4
     returns-5
     until-word-requires
-    returns-6)
+    (λ c. search needs))

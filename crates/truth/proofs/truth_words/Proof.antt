@@ -21,9 +21,6 @@ Inv-loop ms ln tw₀ w i₀ tw i = Filled (λ j u. trueAt ms ln j u) w (length m
 abbrev μ-loop : tie.MeasureT-loop
 μ-loop ms ln tw₀ w i₀ tw i = length ms - i
 
-loop-holds : tie.Need-loop-holds Inv-loop2 μ-loop2 Inv-loop μ-loop
-loop-holds c = fill-start (c .before .before .before .pre .1 .1)
-
 loop2-holds : tie.Need-loop2-holds Inv-loop2 μ-loop2 Inv-loop μ-loop
 loop2-holds c = fill-from (c .before .loop .inv) (sym (c .before .loop .inv .long))
 
@@ -53,28 +50,13 @@ slice-write-tw c =
     let b4 = c .before .before .before .before in
     omega (arith, fill-at (c .before .before .before .loop2 .inv) (b4 .loop-test .taken) (c .before .before .loop2-test .taken))
 
-add-k : tie.Need-add-k Inv-loop2 μ-loop2 Inv-loop μ-loop
-add-k c = search needs
-
-loop2-less : tie.Need-loop2-less Inv-loop2 μ-loop2 Inv-loop μ-loop
-loop2-less c = search needs
-
 loop2-again : tie.Need-loop2-again Inv-loop2 μ-loop2 Inv-loop μ-loop
 loop2-again c =
     let b4 = c .before .before .before .before in
     fill-word (c .before .before .before .loop2 .inv) (b4 .loop-test .taken) (c .before .before .loop2-test .taken) (c .truth-word .ensures)
 
-add-i : tie.Need-add-i Inv-loop2 μ-loop2 Inv-loop μ-loop
-add-i c = search needs
-
-loop-less : tie.Need-loop-less Inv-loop2 μ-loop2 Inv-loop μ-loop
-loop-less c = search needs
-
 loop-again : tie.Need-loop-again Inv-loop2 μ-loop2 Inv-loop μ-loop
 loop-again c = fill-block (fill-from (c .before .loop2 .inv) (c .before .before .before .loop .inv .long)) (c .before .before .loop-test .taken) (c .loop2-test .left)
-
-same-length : tie.Need-same-length Inv-loop2 μ-loop2 Inv-loop μ-loop
-same-length c = c .before .loop .inv .long
 
 returns : tie.Need-returns Inv-loop2 μ-loop2 Inv-loop μ-loop
 returns c =
@@ -89,18 +71,18 @@ truth-words-spec =
     μ-loop2
     Inv-loop
     μ-loop
-    loop-holds
+    (λ c. fill-start (c .before .before .before .pre .1 .1))
     loop2-holds
     truth-word-requires
     mul-at
     add-at
     mul-tw
     slice-write-tw
-    add-k
-    loop2-less
+    (λ c. search needs)
+    (λ c. search needs)
     loop2-again
-    add-i
-    loop-less
+    (λ c. search needs)
+    (λ c. search needs)
     loop-again
-    same-length
+    (λ c. c .before .loop .inv .long)
     returns)

@@ -6,24 +6,6 @@ use Rattle.truth.proofs.TruthWords.{until-ar, until-au, until-er, until
 use Rattle.truth.proofs.until_word.Statement.{statement}
 use Rattle.truth.proofs.until_word.Tie as tie
 
-mul-x : tie.Need-mul-x
-mul-x c = search needs
-
-shared-slice-read-x : tie.Need-shared-slice-read-x
-shared-slice-read-x c = search needs
-
-tag-requires : tie.Need-tag-requires
-tag-requires c κs = search needs
-
-arg-requires : tie.Need-arg-requires
-arg-requires c κs = search needs
-
-some-mode-requires : tie.Need-some-mode-requires
-some-mode-requires c κs = search needs
-
-some-mode-requires-2 : tie.Need-some-mode-requires-2
-some-mode-requires-2 c κs = search needs
-
 returns : tie.Need-returns
 returns c =
     let b4 = c .before .before .before .before in
@@ -37,12 +19,6 @@ returns-2 c =
     let b9 = b5 .before .before .before .before in
     until-ar (b9 .pre .0) (b9 .pre .1 .0) _ (b9 .pre .1 .1 .0 .0) (b9 .pre .1 .1 .1 .0) (b9 .pre .1 .1 .1 .1) _ _ (b4 .arg .ensures) (sym (b5 .tag .ensures) ∙ c .if2 .taken) (c .before .before .some-mode2 .ensures)
 
-find-plain-requires : tie.Need-find-plain-requires
-find-plain-requires c κs = search needs
-
-some-mode-requires-3 : tie.Need-some-mode-requires-3
-some-mode-requires-3 c κs = search needs
-
 returns-3 : tie.Need-returns-3
 returns-3 c =
     let b5 = c .before .before .before .before .before in
@@ -50,12 +26,6 @@ returns-3 c =
     let b8 = b7 .before in
     let b12 = b8 .before .before .before .before in
     until-au (b12 .pre .0) (b12 .pre .1 .0) _ (b12 .pre .1 .1 .0 .0) (b12 .pre .1 .1 .1 .0) (b12 .pre .1 .1 .1 .1) _ _ _ _ (b7 .arg .ensures) (c .before .find-plain .ensures) (sym (b8 .tag .ensures) ∙ c .before .before .if3 .taken) (c .some-mode3 .ensures) (b5 .some-mode2 .ensures)
-
-find-plain-requires-2 : tie.Need-find-plain-requires-2
-find-plain-requires-2 c κs = search needs
-
-some-mode-requires-4 : tie.Need-some-mode-requires-4
-some-mode-requires-4 c κs = search needs
 
 returns-4 : tie.Need-returns-4
 returns-4 c =
@@ -70,17 +40,17 @@ pub until-word-spec : {M : Type 1} → statement M
 until-word-spec =
     tie.close
     (tie.spec
-    mul-x
-    shared-slice-read-x
-    tag-requires
-    arg-requires
-    some-mode-requires
-    some-mode-requires-2
+    (λ c. search needs)
+    (λ c. search needs)
+    (λ c κs. search needs)
+    (λ c κs. search needs)
+    (λ c κs. search needs)
+    (λ c κs. search needs)
     returns
     returns-2
-    find-plain-requires
-    some-mode-requires-3
+    (λ c κs. search needs)
+    (λ c κs. search needs)
     returns-3
-    find-plain-requires-2
-    some-mode-requires-4
+    (λ c κs. search needs)
+    (λ c κs. search needs)
     returns-4)
