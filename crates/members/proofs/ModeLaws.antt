@@ -2,16 +2,16 @@
 use mathlib.Core.Path.{_≡_, refl, sym, ap, _∙_}
 use mathlib.Core.Bool.{Bool, true, not, _&&_}
 use mathlib.Core.Logic.{_⊎_, inl, inr}
-use Prim.Native.Nat.{ℕ, _^_, _≤_, _<_}
+use Prim.Native.Nat.{ℕ, _^_, _<_}
 use native.Mathlib.Omega.{arith}
-use lib.Dec.{T, T-not, not-T}
+use lib.Dec.{T, T-not, ltb, not-T}
 use lib.Count.{trailingZeros}
-use borrow.Author.Tests.{eq-eqb, ne-eqb}
+use borrow.Author.Tests.{eq-eqb, le-ltb, lt-ltb, ne-eqb}
 use Rattle.ctl.specs.Lists as L
-use Rattle.ctl.proofs.BoolLaws.{T-true, and-0, and-1, and-in, both-ways, not-absurd, true-T}
-use Rattle.ctl.proofs.ModeLaws.{mode-lt, single-out, modes-has, modes-in}
+use Rattle.ctl.proofs.BoolLaws.{T-true, and-0, and-1, and-in, both-ways, false-T, not-absurd, true-T}
+use Rattle.ctl.proofs.ModeLaws.{mode-lt, single-in, single-out, modes-has, modes-in}
 use Rattle.ctl.specs.Modes.{single, hasMode, modes}
-use Rattle.ctl.proofs.ListLaws.{all-in, all-out, any-in, any-out}
+use Rattle.ctl.proofs.ListLaws.{all-in, all-out, any-in, any-out, below-in}
 use Rattle.wordset.proofs.BelowLaws.{any-intro, least-holds, least-is, least-lt}
 use Rattle.wordset.proofs.BitLaws.{bit-pow, trailing-least}
 use Rattle.wordset.specs.Below.{anyBelow, least}
@@ -44,9 +44,9 @@ no-single a f e =
     f (omega arith) (r .2 ∙ ap (λ (j : ℕ). 2 ^ j) (sym q))
 
 -- what the mode of a set tells
-pub mode-wide : {r a : ℕ} → ((r < 16) × (a ≡ 2 ^ r)) ⊎ ((r ≡ 16) × (single a ≡ true → ⊥)) → 16 ≤ r → single a ≡ true → ⊥
-mode-wide (inl k) h = absurd (let l = k .0 in omega arith)
-mode-wide (inr k) h = k .1
+pub one-mode : {r a : ℕ} → ((r < 16) × (a ≡ 2 ^ r)) ⊎ ((r ≡ 16) × (single a ≡ true → ⊥)) → ltb r 16 ≡ single a
+one-mode {r} (inl (h, e)) = lt-ltb r 16 h ∙ sym (ap single e ∙ true-T _ (single-in (below-in h)))
+one-mode {r} (inr (e, f)) = le-ltb r 16 (omega arith) ∙ sym (false-T _ (λ t. f (true-T _ t)))
 
 pub mode-one : {r a : ℕ} → ((r < 16) × (a ≡ 2 ^ r)) ⊎ ((r ≡ 16) × (single a ≡ true → ⊥)) → r < 16 → a ≡ 2 ^ r
 mode-one (inl k) h = k .1
