@@ -140,7 +140,7 @@ module _ {s : List ℕ} {u : Setup} (x : SetUp s u) (z : u .refusal ≡ 0) where
         → Ready (membersIn u) (leanIn u) (u .words) tw cw ns × (Room (u .words) first second among todo found rest × (Places (u .words) (leanIn u) (namesIn u) base × (u .goal < length (membersIn u))))
     judge-asked first second among todo found rest a b c d e g =
         let w = few-words in
-        (f .0, (record { first-room = omega arith; second-room = omega arith; u-room = omega arith; todo-room = omega arith; v-room = omega arith; rest-room = omega arith }, (places, framed .goal-inside)))
+        (f .0, (record { first-room = omega arith; second-room = omega arith; copy-room = omega arith; todo-room = omega arith; v-room = omega arith; rest-room = omega arith }, (places, framed .goal-inside)))
 
     pub judged : {v : Verdict} → Judged (goalsAt (membersIn u) (leanIn u) (u .words) base (namesIn u) (u .goal)) (u .namings) v → verdictIn s ≡ verdictOf v
     unfolding verdictIn

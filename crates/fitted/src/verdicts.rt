@@ -22,9 +22,9 @@ pub fn fitted_verdict(sheet: &[u8], u: Setup) -> Verdict
     let n = frame::fill(u, &mut tw, &mut cw, &mut ns, &mut base);
     let mut first = [0u64; 4];
     let mut second = [0u64; 4];
-    let mut among = [0u64; 4];
+    let mut copy = [0u64; 4];
     let mut todo = [0u64; 4];
-    let mut found = [0u64; 4];
+    let mut v = [0u64; 4];
     let mut rest = [0u64; 4];
     judge::judge(
         &members[..u.count],
@@ -39,9 +39,9 @@ pub fn fitted_verdict(sheet: &[u8], u: Setup) -> Verdict
         u.namings,
         &mut first,
         &mut second,
-        &mut among,
+        &mut copy,
         &mut todo,
-        &mut found,
+        &mut v,
         &mut rest,
     )
 }

@@ -2,11 +2,7 @@
 // sets of conditions that its types refuse. Assumes nothing.
 pub mod blocks;
 
-use crate::blocks::pick;
 use conditions::some_word;
-use members::parts::left;
-use needs::parts::mode;
-use needs::parts::whole;
 ghost use mathlib.Core.Path.{_≡_};
 ghost use mathlib.Core.Bool.{Bool, true, false, not, _&&_, _||_};
 ghost use Prim.Native.Nat.{ℕ, _+_, _*_, _/_, _%_, _^_, _≤_, _<_};
@@ -15,11 +11,8 @@ ghost use Rattle.ctl.specs.Modes.{hasMode};
 ghost use Rattle.wordset.specs.Answers.{Answers};
 ghost use Rattle.wordset.specs.Below.{anyBelow};
 ghost use Rattle.wordset.specs.Word.{bit};
-ghost use Rattle.wordset.specs.Words.{member, packed};
-ghost use Rattle.members.specs.Members.{leftW};
-ghost use Rattle.truth.specs.Blocks.{has};
+ghost use Rattle.wordset.specs.Words.{member, minus, packed};
 ghost use Rattle.conditions.specs.Entries.{entry, inSome, linkedTo, refusing, side};
-ghost use Rattle.needs.specs.NeedWords.{modeW, wholeW};
 ghost use Rattle.image.specs.Covering.{Refused, RefusedBy, notAll, passing};
 
 // Word x with the numbers of word y, if on is true.
@@ -178,60 +171,50 @@ fn exceeds(rest: &[u64], cw: &[u64], w: usize, e: usize) -> bool
     false
 }
 
-// Those of dst stay that have not the need x, an EX over one mode, or are linked along its mode to a type of u in the block of its body. The first w words of v and of
-// rest are overwritten. Where a type of u with the body refuses nothing, all are linked to it.
+// Of v, those leave dst that are not linked along mode m to a type of rest. The first w words of v and of rest are overwritten. Where a type of rest refuses nothing,
+// all are linked to it.
 pub fn confine_linked(
     dst: &mut [u64],
     v: &mut [u64],
     rest: &mut [u64],
-    u: &[u64],
-    tw: &[u64],
     cw: &[u64],
     w: usize,
-    x: u64,
+    m: usize,
 )
-    requires { ⌜ (wholeW x * w + w ≤ length (now tw)) × (leftW x * w + w ≤ length (now tw)) × (w * 64 + 16 ≤ length (now cw)) × (w ≤ 1024) × (modeW x < 16) ⌝ }
-    requires { ⌜ ((t : ℕ) → t < w * 64 → entry (now cw) (refusing (modeW x)) t ≡ inSome (now cw) (side w (now cw) (modeW x)) t) ⌝ }
-    requires { ⌜ (w ≤ length (now dst)) × (w ≤ length (now v)) × (w ≤ length (now rest)) × (w ≤ length (now u)) ⌝ }
-    ensures { λ _. ⌜ now (dst .exit) ≡ packed w (λ t. member (now (dst .entry)) t && (not (has w (now (tw .entry)) (wholeW x) t) || linkedTo w (now (cw .entry)) (side w (now (cw .entry)) (modeW x)) (λ c. member (now (u .entry)) c && has w (now (tw .entry)) (leftW x) c) t)) (now (dst .entry)) ⌝ }
+    requires { ⌜ (w * 64 + 16 ≤ length (now cw)) × (w ≤ 1024) × (m < 16) ⌝ }
+    requires { ⌜ ((t : ℕ) → t < w * 64 → entry (now cw) (refusing m) t ≡ inSome (now cw) (side w (now cw) m) t) ⌝ }
+    requires { ⌜ (w ≤ length (now dst)) × (w ≤ length (now v)) × (w ≤ length (now rest)) ⌝ }
+    ensures { λ _. ⌜ now (dst .exit) ≡ packed w (λ t. member (now (dst .entry)) t && not (member (now (v .entry)) t && not (linkedTo w (now (cw .entry)) (side w (now (cw .entry)) m) (member (now (rest .entry))) t))) (now (dst .entry)) ⌝ }
 {
-    let m = mode(x);
-    if !pick(v, dst, tw, w, whole(x)) {
-        return;
-    }
-    pick(rest, u, tw, w, left(x));
     if exceeds(rest, cw, w, 24 + m % 8 + m / 8 * 32) {
         return;
     }
-    if !drain(v, rest, cw, cw[w * 64 + m], w) {
-        return;
+    if drain(v, rest, cw, cw[w * 64 + m], w) {
+        wordset::subtract(dst, v, w);
     }
-    wordset::subtract(dst, v, w);
 }
 
-// Those of dst stay that are linked by one of the modes a to a type of u. The first w words of v and of rest are overwritten.
-pub fn step(
-    dst: &mut [u64],
+// Those of v stay that are linked by none of the modes a to a type of src that is not in u. The first w words of rest are overwritten.
+pub fn drop_linked(
     v: &mut [u64],
     rest: &mut [u64],
+    src: &[u64],
     u: &[u64],
     cw: &[u64],
     w: usize,
     a: u64,
 )
     requires { ⌜ (w * 64 + 16 ≤ length (now cw)) × (w ≤ 1024) × (a < 65536) ⌝ }
-    requires { ⌜ (w ≤ length (now dst)) × (w ≤ length (now v)) × (w ≤ length (now rest)) × (w ≤ length (now u)) ⌝ }
-    ensures { λ _. ⌜ ((t : ℕ) → t < w * 64 → member (now (dst .exit)) t ≡ (member (now (dst .entry)) t && anyBelow 16 (λ m. hasMode a m && linkedTo w (now (cw .entry)) (side w (now (cw .entry)) m) (member (now (u .entry))) t))) ⌝ }
+    requires { ⌜ (w ≤ length (now v)) × (w ≤ length (now rest)) × (w ≤ length (now src)) × (w ≤ length (now u)) ⌝ }
+    ensures { λ _. ⌜ ((t : ℕ) → t < w * 64 → member (now (v .exit)) t ≡ (member (now (v .entry)) t && not (anyBelow 16 (λ m. hasMode a m && linkedTo w (now (cw .entry)) (side w (now (cw .entry)) m) (member (minus w (now (src .entry)) (now (u .entry)))) t)))) ⌝ }
 {
-    wordset::copy(v, dst, w);
     let mut left = a;
     while left != 0 {
         let m = u64::trailing_zeros(left) as usize;
-        wordset::copy(rest, u, w);
+        wordset::less(rest, src, u, w);
         if !drain(v, rest, cw, cw[w * 64 + m], w) {
             return;
         }
         left = left & (left - 1);
     }
-    wordset::subtract(dst, v, w);
 }

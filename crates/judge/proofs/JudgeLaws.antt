@@ -57,10 +57,10 @@ pub record Judging (goals : ℕ → List ℕ) (n r : ℕ) : Type 0 where
   pub none : (q : ℕ) → q < r → goals q ≡ []
 
 -- the stores keep their lengths
-pub record Kept (first second u todo v rest first′ second′ u′ todo′ v′ rest′ : List ℕ) : Type 0 where
+pub record Kept (first second copy todo v rest first′ second′ copy′ todo′ v′ rest′ : List ℕ) : Type 0 where
   pub first-long : length first′ ≡ length first
   pub second-long : length second′ ≡ length second
-  pub u-long : length u′ ≡ length u
+  pub copy-long : length copy′ ≡ length copy
   pub todo-long : length todo′ ≡ length todo
   pub v-long : length v′ ≡ length v
   pub rest-long : length rest′ ≡ length rest
@@ -87,25 +87,25 @@ module _ {goals : ℕ → List ℕ} {n : ℕ} where
 
 -- ---- the stores keep their room
 
-pub room-kept : {w : ℕ} {first second u todo v rest first′ second′ u′ todo′ v′ rest′ : List ℕ} → Room w first second u todo v rest → Kept first second u todo v rest first′ second′ u′ todo′ v′ rest′ → Room w first′ second′ u′ todo′ v′ rest′
+pub room-kept : {w : ℕ} {first second copy todo v rest first′ second′ copy′ todo′ v′ rest′ : List ℕ} → Room w first second copy todo v rest → Kept first second copy todo v rest first′ second′ copy′ todo′ v′ rest′ → Room w first′ second′ copy′ todo′ v′ rest′
 room-kept {w} r k = record {
   first-room = subst (λ n. w ≤ n) (sym (k .first-long)) (r .first-room);
   second-room = subst (λ n. w ≤ n) (sym (k .second-long)) (r .second-room);
-  u-room = subst (λ n. w ≤ n) (sym (k .u-long)) (r .u-room);
+  copy-room = subst (λ n. w ≤ n) (sym (k .copy-long)) (r .copy-room);
   todo-room = subst (λ n. w ≤ n) (sym (k .todo-long)) (r .todo-room);
   v-room = subst (λ n. w ≤ n) (sym (k .v-long)) (r .v-room);
   rest-room = subst (λ n. w ≤ n) (sym (k .rest-long)) (r .rest-room);
 }
 
-pub kept-start : {first second u todo v rest : List ℕ} → Kept first second u todo v rest first second u todo v rest
-kept-start = record { first-long = refl; second-long = refl; u-long = refl; todo-long = refl; v-long = refl; rest-long = refl }
+pub kept-start : {first second copy todo v rest : List ℕ} → Kept first second copy todo v rest first second copy todo v rest
+kept-start = record { first-long = refl; second-long = refl; copy-long = refl; todo-long = refl; v-long = refl; rest-long = refl }
 
-pub kept-more : {first second u todo v rest first′ second′ u′ todo′ v′ rest′ first″ second″ u″ todo″ v″ rest″ : List ℕ} → Kept first second u todo v rest first′ second′ u′ todo′ v′ rest′ → Kept first′ second′ u′ todo′ v′ rest′ first″ second″ u″ todo″ v″ rest″
-    → Kept first second u todo v rest first″ second″ u″ todo″ v″ rest″
+pub kept-more : {first second copy todo v rest first′ second′ copy′ todo′ v′ rest′ first″ second″ copy″ todo″ v″ rest″ : List ℕ} → Kept first second copy todo v rest first′ second′ copy′ todo′ v′ rest′ → Kept first′ second′ copy′ todo′ v′ rest′ first″ second″ copy″ todo″ v″ rest″
+    → Kept first second copy todo v rest first″ second″ copy″ todo″ v″ rest″
 kept-more a b = record {
   first-long = b .first-long ∙ a .first-long;
   second-long = b .second-long ∙ a .second-long;
-  u-long = b .u-long ∙ a .u-long;
+  copy-long = b .copy-long ∙ a .copy-long;
   todo-long = b .todo-long ∙ a .todo-long;
   v-long = b .v-long ∙ a .v-long;
   rest-long = b .rest-long ∙ a .rest-long;

@@ -18,10 +18,10 @@ unfoldable pub goalsAt : List ℕ → List ℕ → ℕ → List ℕ → List ℕ
 goalsAt ms ln w base names goal r = keep (trueAt ms ln goal) (Survivors ms ln (startList w base names (length ln) r))
 
 -- what judging asks: room for w words in each store, and that these hold the lean's types, with the names' places among the lean's
-pub record Room (w : ℕ) (first second u todo v rest : List ℕ) : Type 0 where
+pub record Room (w : ℕ) (first second copy todo v rest : List ℕ) : Type 0 where
   pub first-room : w ≤ length first
   pub second-room : w ≤ length second
-  pub u-room : w ≤ length u
+  pub copy-room : w ≤ length copy
   pub todo-room : w ≤ length todo
   pub v-room : w ≤ length v
   pub rest-room : w ≤ length rest

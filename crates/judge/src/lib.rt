@@ -37,7 +37,7 @@ pub fn fill_table(
     requires { ⌜ Places w (now ln) (now names) (now base) × ((w ≤ 4) × ((w ≤ length (now first)) × (w ≤ length (now second)))) ⌝ }
     ensures { λ c. ⌜ Tabled (startList w (now (base .entry)) (now (names .entry)) (length (now (ln .entry))) r) (Survivors (now (ms .entry)) (now (ln .entry)) (startList w (now (base .entry)) (now (names .entry)) (length (now (ln .entry))) r)) (Rounds (now (ms .entry)) (now (ln .entry)) (startList w (now (base .entry)) (now (names .entry)) (length (now (ln .entry))) r)) w (now (first .entry)) (now (second .entry)) (now (first .exit)) (now (second .exit)) c ⌝ }
 {
-    let mut u = [0u64; 4];
+    let mut copy = [0u64; 4];
     let mut todo = [0u64; 4];
     let mut v = [0u64; 4];
     let mut rest = [0u64; 4];
@@ -53,7 +53,7 @@ pub fn fill_table(
         base,
         first,
         second,
-        &mut u,
+        &mut copy,
         &mut todo,
         &mut v,
         &mut rest,
@@ -74,18 +74,18 @@ fn try_naming(
     r: u64,
     first: &mut [u64],
     second: &mut [u64],
-    u: &mut [u64],
+    copy: &mut [u64],
     todo: &mut [u64],
     v: &mut [u64],
     rest: &mut [u64],
 ) -> Found
     requires { ⌜ Ready (now ms) (now ln) w (now tw) (now cw) (now ns) ⌝ }
-    requires { ⌜ Room w (now first) (now second) (now u) (now todo) (now v) (now rest) ⌝ }
+    requires { ⌜ Room w (now first) (now second) (now copy) (now todo) (now v) (now rest) ⌝ }
     requires { ⌜ Places w (now ln) (now names) (now base) × (goal < length (now ms)) ⌝ }
     ensures { λ a. ⌜ a ≡ firstOf (goalsAt (now (ms .entry)) (now (ln .entry)) w (now (base .entry)) (now (names .entry)) goal r) ⌝ }
 {
     start_words(names, ln.len(), r, w, base, first);
-    settle(ns, tw, cw, w, first, second, u, todo, v, rest);
+    settle(ns, tw, cw, w, first, second, copy, todo, v, rest);
     goal_type(ms, ln, w, tw, goal, first)
 }
 
@@ -103,13 +103,13 @@ pub fn judge(
     namings: u64,
     first: &mut [u64],
     second: &mut [u64],
-    u: &mut [u64],
+    copy: &mut [u64],
     todo: &mut [u64],
     v: &mut [u64],
     rest: &mut [u64],
 ) -> Verdict
     requires { ⌜ Ready (now ms) (now ln) w (now tw) (now cw) (now ns) ⌝ }
-    requires { ⌜ Room w (now first) (now second) (now u) (now todo) (now v) (now rest) ⌝ }
+    requires { ⌜ Room w (now first) (now second) (now copy) (now todo) (now v) (now rest) ⌝ }
     requires { ⌜ Places w (now ln) (now names) (now base) × (goal < length (now ms)) ⌝ }
     ensures { λ r. ⌜ Judged (goalsAt (now (ms .entry)) (now (ln .entry)) w (now (base .entry)) (now (names .entry)) goal) namings r ⌝ }
 {
@@ -129,7 +129,7 @@ pub fn judge(
             r,
             first,
             second,
-            u,
+            copy,
             todo,
             v,
             rest,

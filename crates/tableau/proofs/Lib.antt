@@ -1,6 +1,8 @@
 pub mod Asks
 pub mod NeedFits
-pub mod Spreading
+pub mod Leaving
+pub mod Ranking
+pub mod SearchLaws
 pub mod Rounding
 pub mod Settling
 pub mod TableWords

@@ -1,5 +1,5 @@
 -- The blocks of a listed need lie within the truth words, and a need that is no EX is that of an EU or an AU. Assumes nothing.
-use mathlib.Core.Path.{_≡_, refl, sym, ap, _∙_}
+use mathlib.Core.Path.{_≡_, refl, sym, ap, ap₂, _∙_}
 use mathlib.Core.Bool.{Bool, true, false, not, _&&_, _||_, cond, and-true, and-assoc, true≢false}
 use mathlib.Core.List.{List}
 use Prim.Native.Nat.{ℕ, _+_, _*_, _≤_, _<_}
@@ -11,18 +11,20 @@ use lib.ListN.{length}
 use Rattle.ctl.proofs.BoolLaws.{and-both}
 use Rattle.ctl.specs.Lists.{imp}
 use Rattle.ctl.specs.Modes.{hasMode}
+use Rattle.wordset.proofs.BelowLaws.{any-false}
 use Rattle.wordset.specs.Below.{allBelow, anyBelow}
 use Rattle.wordset.specs.Words.{member, packed}
 use Rattle.members.specs.Members.{argW, leftW, rightW, tagW}
 use Rattle.truth.specs.Tables.{leftAt, rightAt, tagAt}
 use Rattle.truth.specs.Blocks.{has}
 use Rattle.truth.proofs.BlockLaws.{block-in}
-use Rattle.truth.proofs.ListWords.{held}
+use Rattle.truth.proofs.ListWords.{held, minus-member}
 use Rattle.conditions.specs.Entries.{linkedTo, side}
+use Rattle.image.proofs.Draining.{linked-ext}
 use Rattle.needs.specs.NeedWords.{modeW, wholeW}
 use Rattle.needs.specs.Needs.{Among, Need, of-field, of-mode, of-until}
 use Rattle.needs.proofs.NeedLaws.{field-left, field-mode, field-tag, field-whole, need-left, need-mode, need-right, need-tag}
-use Rattle.tableau.specs.Families.{Ready, Until, exAlong, hasNext, hasNexts, wants}
+use Rattle.tableau.specs.Families.{Ready, Until, exAlong, hasNext, hasNexts, ranked, wants}
 use Rattle.tableau.proofs.Asks.{few-whole}
 
 module _ {ms ln : List ℕ} {w : ℕ} {tw cw ns : List ℕ} (r : Ready ms ln w tw cw ns) where
@@ -85,15 +87,46 @@ pub follow-off : (a x : ℕ) (b : Bool) → b ≡ exAlong a x → not b ≡ true
 follow-off a x true e f d h = absurd (true≢false (sym f))
 follow-off a x false e f d h = sym (ap (λ y. d && imp y h) (sym e) ∙ and-true d)
 
--- one of these confines a set
-pub follow-on : (a x : ℕ) (b : Bool) → b ≡ exAlong a x → not b ≡ false → (w : ℕ) (tw cw u d d′ : List ℕ) → w ≤ length d
-    → d′ ≡ packed w (λ t. member d t && (not (has w tw (wholeW x) t) || linkedTo w cw (side w cw (modeW x)) (λ c. member u c && has w tw (leftW x) c) t)) d
-    → (t : ℕ) → t < w * 64 → member d′ t ≡ (member d t && imp (exAlong a x) (hasNext w tw cw (member u) x t))
-unfolding hasNext
-follow-on a x false e f w tw cw u d d′ h q t l = absurd (true≢false f)
-follow-on a x true e f w tw cw u d d′ h q t l =
-    held (λ t. member d t && (not (has w tw (wholeW x) t) || linkedTo w cw (side w cw (modeW x)) (λ c. member u c && has w tw (leftW x) c) t)) d d′ w h q t l
-    ∙ ap (λ y. member d t && imp y (not (has w tw (wholeW x) t) || linkedTo w cw (side w cw (modeW x)) (λ c. member u c && has w tw (leftW x) c) t)) e
+-- one of these asks for its next
+pub follow-on : (a x : ℕ) (b : Bool) → b ≡ exAlong a x → not b ≡ false → (h : Bool) → h ≡ imp (exAlong a x) h
+follow-on a x false e f h = absurd (true≢false f)
+follow-on a x true e f h = ap (λ y. imp y h) e
+
+-- the ranked types of a block
+pub pick-ranked : (tw src copy rest₀ rest : List ℕ) (w i : ℕ) → w ≤ length src → w ≤ length rest₀ → rest ≡ packed w (λ t. (member src t && not (member copy t)) && has w tw i t) rest₀
+    → (t : ℕ) → t < w * 64 → member rest t ≡ (member (ranked w src copy) t && has w tw i t)
+pick-ranked tw src copy rest₀ rest w i h k q t l =
+    held (λ t. (member src t && not (member copy t)) && has w tw i t) rest₀ rest w k q t l ∙ ap (λ b. b && has w tw i t) (sym (minus-member src copy (ranked w src copy) w h refl t l))
+
+-- ---- those of d stay that have not the need x, an EX, or whose next is in U
+
+module _ (w : ℕ) (tw cw : List ℕ) (U : ℕ → Bool) (d : List ℕ) (x : ℕ) {i : ℕ} (ei : i ≡ wholeW x) where
+  -- none has the need
+  pub next-none : anyBelow (w * 64) (λ t. member d t && has w tw i t) ≡ false → (t : ℕ) → t < w * 64 → member d t ≡ (member d t && hasNext w tw cw U x t)
+  unfolding hasNext
+  next-none e t l = all (member d t) (has w tw i t) _ (any-false (λ t. member d t && has w tw i t) (w * 64) e t l) ∙ ap (λ j. member d t && (not (has w tw j t) || linkedTo w cw (side w cw (modeW x)) (λ c. U c && has w tw (leftW x) c) t)) ei
+    where
+      all : (d h n : Bool) → (d && h) ≡ false → d ≡ (d && (not h || n))
+      all true true n e = absurd (true≢false e)
+      all true false n e = refl
+      all false h n e = refl
+
+  -- v has those that have it, `rest` what it asks for
+  module _ {p m : ℕ} (ep : p ≡ leftW x) (em : m ≡ modeW x) (v rest : List ℕ) (f : (t : ℕ) → t < w * 64 → member v t ≡ (member d t && has w tw i t)) (g : (t : ℕ) → t < w * 64 → member rest t ≡ (U t && has w tw p t)) where
+    pub next-kept : (t : ℕ) → t < w * 64 → (member d t && not (member v t && not (linkedTo w cw (side w cw m) (member rest) t))) ≡ (member d t && hasNext w tw cw U x t)
+    unfolding hasNext
+    next-kept t l =
+        ap₂ (λ a b. member d t && not (a && not b)) (f t l) (linked-ext w cw (side w cw m) (member rest) (λ c. U c && has w tw p c) t g) ∙ kept (member d t) (has w tw i t) _
+        ∙ ap₂ (λ j b. member d t && (not (has w tw j t) || b)) ei (ap₂ (λ q n. linkedTo w cw (side w cw n) (λ c. U c && has w tw q c) t) ep em)
+      where
+        kept : (d h n : Bool) → (d && not ((d && h) && not n)) ≡ (d && (not h || n))
+        kept true true true = refl
+        kept true true false = refl
+        kept true false n = refl
+        kept false h n = refl
+
+    pub next-held : (d′ : List ℕ) → w ≤ length d → d′ ≡ packed w (λ t. member d t && not (member v t && not (linkedTo w cw (side w cw m) (member rest) t))) d → (t : ℕ) → t < w * 64 → member d′ t ≡ (member d t && hasNext w tw cw U x t)
+    next-held d′ h q t l = held (λ t. member d t && not (member v t && not (linkedTo w cw (side w cw m) (member rest) t))) d d′ w h q t l ∙ next-kept t l
 
 pub along-mode : (a x : ℕ) (b : Bool) → b ≡ exAlong a x → not b ≡ false → (tagW x ≡ 6 → modeW x < 16) → modeW x < 16
 along-mode a x false e f g = absurd (true≢false f)

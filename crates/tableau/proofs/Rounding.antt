@@ -1,9 +1,9 @@
 -- A round by words: that no need is lacking means what the elimination asks, and the loop over the needs. Assumes nothing.
 use mathlib.Core.Path.{_≡_, refl, sym, ap, ap₂, _∙_}
-use mathlib.Core.Bool.{Bool, true, false, not, _&&_, and-true, and-assoc, _||_, cond}
+use mathlib.Core.Bool.{Bool, Bool·not-not, true, false, not, _&&_, and-true, and-false, and-assoc, _||_, cond, true≢false}
 use mathlib.Core.List.{List, [], _∷_}
 use mathlib.Core.Logic.{_⊎_, inl, inr, ⊎-elim}
-use Prim.Native.Nat.{ℕ, _+_, _*_, _≤_, _<_}
+use Prim.Native.Nat.{ℕ, _+_, _*_, _^_, _≤_, _<_}
 use native.Mathlib.Omega.{arith}
 use native.Mathlib.Numerals.{add-one}
 use borrow.Author.Tests.{eq-eqb, ne-eqb}
@@ -11,7 +11,7 @@ use lib.Dec.{eqb}
 use lib.ListN.{length, getD}
 use Rattle.ctl.specs.Elimination as E
 use Rattle.ctl.specs.Lists as L
-use Rattle.ctl.proofs.BoolLaws.{and-make, both-ways, not-or, T-cast, T-cast⁻, T-true, true-T}
+use Rattle.ctl.proofs.BoolLaws.{and-both, and-make, both-ways, not-or, T-cast, T-cast⁻, T-true, true-T}
 use Rattle.ctl.proofs.EliminationLaws.{round-elem}
 use Rattle.ctl.proofs.ListLaws.{all-in, all-out, below-in, elem-keep}
 use Rattle.ctl.proofs.ModeLaws.{modes-in}
@@ -21,23 +21,23 @@ use Rattle.ctl.specs.Formula.{Form, tru, fls, lit, nlit, and, or, ex, ax, eu, a
 use Rattle.ctl.specs.Lists.{elem, imp}
 use Rattle.ctl.specs.Modes.{allModes, hasMode, modes, single}
 use Rattle.wordset.proofs.BelowLaws.{all-elim, all-intro, same-or}
-use Rattle.wordset.proofs.PackLaws.{packed-ext, packed-held, packed-twice}
+use Rattle.wordset.proofs.PackLaws.{packed-ext, packed-held, packed-self, packed-twice}
 use Rattle.wordset.specs.Below.{allBelow}
 use Rattle.wordset.specs.Words.{member, packed}
-use Rattle.members.specs.Members.{forms, leftW, tagW}
+use Rattle.members.specs.Members.{forms, tagW}
 use Rattle.truth.specs.Tables.{argAt, form, leftAt, tagAt}
 use Rattle.truth.specs.Blocks.{has, listOf}
 use Rattle.truth.specs.Truths.{Tr, trueAt}
 use Rattle.truth.proofs.ListWords.{held, list-elem}
 use Rattle.truth.proofs.MemberLaws.{all-forms, form-tag, tag-of}
 use Rattle.truth.proofs.TruthLaws.{truth-bit}
-use Rattle.conditions.specs.Entries.{linkedTo, side}
 use Rattle.conditions.specs.Conditions.{Lk}
 use Rattle.needs.specs.NeedWords.{modeW, needOf, wholeW}
 use Rattle.needs.specs.Needs.{Need, of-field, of-mode, of-until}
 use Rattle.needs.proofs.NeedLaws.{field-mode, field-tag, need-mode, need-tag}
-use Rattle.tableau.specs.Families.{Follows, Good, Next, Ready, Round, exAlong, hasNext, hasNexts, lacks, stays}
+use Rattle.tableau.specs.Families.{Finds, Follows, Good, Next, Ready, Round, Within, exAlong, hasNext, hasNexts, lacks, stays}
 use Rattle.tableau.proofs.Asks.{few-whole, follow-ex, follow-from, follow-none, follow-to}
+use Rattle.tableau.proofs.SearchLaws.{left-lacks}
 
 -- ---- what members ask
 
@@ -68,6 +68,16 @@ all-modes A = true-T _ (all-in (hasMode 65535) (modes A) (λ m k. all-out (hasMo
 
 mode-among : (m : ℕ) → m < 16 → hasMode 65535 m ≡ true
 mode-among m h = true-T _ (all-out (hasMode 65535) {l = allModes} tt (below-in h))
+
+-- who keeps its place, by the kind of the need
+module _ (ms ln : List ℕ) (w : ℕ) (tw cw src : List ℕ) (x : ℕ) where
+  stays-ex : tagW x ≡ 6 → (t : ℕ) → stays ms ln w tw cw src x t ≡ hasNext w tw cw (member src) x t
+  unfolding stays
+  stays-ex e t = ap (λ b. cond b (hasNext w tw cw (member src) x t) (not (has w tw (wholeW x) t) || elem t (Good ms ln (listOf w src) (form ms (wholeW x))))) (eq-eqb (tagW x) 6 e)
+
+  stays-other : (tagW x ≡ 6 → ⊥) → (t : ℕ) → stays ms ln w tw cw src x t ≡ (not (has w tw (wholeW x) t) || elem t (Good ms ln (listOf w src) (form ms (wholeW x))))
+  unfolding stays
+  stays-other e t = ap (λ b. cond b (hasNext w tw cw (member src) x t) (not (has w tw (wholeW x) t) || elem t (Good ms ln (listOf w src) (form ms (wholeW x))))) (ne-eqb (tagW x) 6 e)
 
 module _ {ms ln : List ℕ} {w : ℕ} {tw cw ns : List ℕ} (r : Ready ms ln w tw cw ns) (src : List ℕ) (t : ℕ) (l : t < w * 64) (m : member src t ≡ true) where
   abbrev Lacks : Form → Bool
@@ -111,17 +121,12 @@ module _ {ms ln : List ℕ} {w : ℕ} {tw cw ns : List ℕ} (r : Ready ms ln w t
 
   -- the need of an EU or an AU
   stays-until : (i : ℕ) → i < length ms → 8 ≤ tagAt ms i → stays ms ln w tw cw src (needOf ms i) t ≡ not (Lacks (form ms i))
-  unfolding stays
   stays-until i h g =
-      ap (λ b. cond b (hasNext w tw cw (member src) (needOf ms i) t) (untilBy (wholeW (needOf ms i)))) (ap (λ (x : ℕ). eqb x 6) (need-tag ms i) ∙ ne-eqb (tagAt ms i) 6 (λ e. omega (arith, g, e)))
+      stays-other ms ln w tw cw src (needOf ms i) (λ e. (let q = need-tag ms i in omega arith)) t
       ∙ ap untilBy (few-whole r i h) ∙ ap (λ x. not x || elem t (Good ms ln (listOf w src) (form ms i))) (truth-bit (r .truths) i h t l) ∙ sym (unlacking i)
     where
       untilBy : ℕ → Bool
       untilBy k = not (has w tw k t) || elem t (Good ms ln (listOf w src) (form ms k))
-
-  stays-ex : (x : ℕ) → tagW x ≡ 6 → stays ms ln w tw cw src x t ≡ hasNext w tw cw (member src) x t
-  unfolding stays
-  stays-ex x e = ap (λ b. cond b (hasNext w tw cw (member src) x t) (not (has w tw (wholeW x) t) || elem t (Good ms ln (listOf w src) (form ms (wholeW x))))) (eq-eqb (tagW x) 6 e)
 
   module _ (s : allBelow (length ns) (λ j. stays ms ln w tw cw src (getD ns j 0) t) ≡ true) where
     nexts : hasNexts w tw cw ns (member src) 65535 t ≡ true
@@ -134,7 +139,7 @@ module _ {ms ln : List ℕ} {w : ℕ} {tw cw ns : List ℕ} (r : Ready ms ln w t
         ends false = refl
 
         one : (x : ℕ) → stays ms ln w tw cw src x t ≡ true → (tagW x ≡ 6) ⊎ (tagW x ≡ 6 → ⊥) → imp (exAlong 65535 x) (hasNext w tw cw (member src) x t) ≡ true
-        one x e (inl g) = ap (imp (exAlong 65535 x)) (sym (stays-ex x g) ∙ e) ∙ ends (exAlong 65535 x)
+        one x e (inl g) = ap (imp (exAlong 65535 x)) (sym (stays-ex ms ln w tw cw src x g t) ∙ e) ∙ ends (exAlong 65535 x)
         one x e (inr g) = ap (λ b. imp (b && hasMode 65535 (modeW x)) (hasNext w tw cw (member src) x t)) (ne-eqb (tagW x) 6 g)
 
     unlacked : (i : ℕ) → i < length ms → not (Lacks (form ms i)) ≡ true
@@ -164,7 +169,7 @@ module _ {ms ln : List ℕ} {w : ℕ} {tw cw ns : List ℕ} (r : Ready ms ln w t
 
         next : tagW x ≡ 6 → modeW x < 16 → stays ms ln w tw cw src x t ≡ true
         next g k =
-            stays-ex x g
+            stays-ex ms ln w tw cw src x g t
             ∙ ap (λ b. imp b (hasNext w tw cw (member src) x t)) (sym (and-make (eqb (tagW x) 6) (hasMode 65535 (modeW x)) (eq-eqb (tagW x) 6 g) (mode-among (modeW x) k)))
             ∙ all-elim (λ j. imp (exAlong 65535 (getD ns j 0)) (hasNext w tw cw (member src) (getD ns j 0) t)) (length ns) follows j h
 
@@ -181,36 +186,36 @@ module _ {ms ln : List ℕ} {w : ℕ} {tw cw ns : List ℕ} (r : Ready ms ln w t
 abbrev pub lasts : List ℕ → List ℕ → ℕ → List ℕ → List ℕ → List ℕ → List ℕ → ℕ → ℕ → Bool
 lasts ms ln w tw cw ns src j t = member src t && allBelow j (λ k. stays ms ln w tw cw src (getD ns k 0) t)
 
-pub record Rounded (w : ℕ) (tw cw ns src d₀ u₀ todo₀ v₀ rest₀ dst u todo v rest : List ℕ) (j : ℕ) : Type 0 where
+pub record Rounded (w : ℕ) (tw cw ns src d₀ copy₀ todo₀ v₀ rest₀ dst copy todo v rest : List ℕ) (j : ℕ) : Type 0 where
   pub within : j ≤ length ns
   pub long : length dst ≡ length d₀
-  pub long-u : length u ≡ length u₀
+  pub long-copy : length copy ≡ length copy₀
   pub long-todo : length todo ≡ length todo₀
   pub long-v : length v ≡ length v₀
   pub long-rest : length rest ≡ length rest₀
   pub is : (ms ln : List ℕ) → Ready ms ln w tw cw ns → dst ≡ packed w (lasts ms ln w tw cw ns src j) d₀
 
 module _ {w : ℕ} {tw cw ns src : List ℕ} where
-  pub round-start : (d : List ℕ) {d₀ u₀ todo₀ v₀ rest₀ : List ℕ} → w ≤ length d → d₀ ≡ packed w (member src) d → Rounded w tw cw ns src d₀ u₀ todo₀ v₀ rest₀ d₀ u₀ todo₀ v₀ rest₀ 0
+  pub round-start : (d : List ℕ) {d₀ copy₀ todo₀ v₀ rest₀ : List ℕ} → w ≤ length d → d₀ ≡ packed w (member src) d → Rounded w tw cw ns src d₀ copy₀ todo₀ v₀ rest₀ d₀ copy₀ todo₀ v₀ rest₀ 0
   unfolding allBelow
   round-start d {d₀} h e = record {
     within = omega arith;
     long = refl;
-    long-u = refl;
+    long-copy = refl;
     long-todo = refl;
     long-v = refl;
     long-rest = refl;
     is = λ ms ln r. packed-held (member src) d d₀ w h e ∙ packed-ext (member src) (lasts ms ln w tw cw ns src 0) d₀ w (λ t l. sym (and-true (member src t)));
   }
 
-  module _ {d₀ u₀ todo₀ v₀ rest₀ dst u todo v rest : List ℕ} {j : ℕ} (s : Rounded w tw cw ns src d₀ u₀ todo₀ v₀ rest₀ dst u todo v rest j) (room : w ≤ length d₀) where
-    pub round-on : (dst′ u′ todo′ v′ rest′ : List ℕ) → j < length ns → length dst′ ≡ length dst → length u′ ≡ length u → length todo′ ≡ length todo → length v′ ≡ length v → length rest′ ≡ length rest
-        → ((ms ln : List ℕ) → Ready ms ln w tw cw ns → dst′ ≡ packed w (λ t. member dst t && stays ms ln w tw cw src (getD ns j 0) t) dst) → Rounded w tw cw ns src d₀ u₀ todo₀ v₀ rest₀ dst′ u′ todo′ v′ rest′ (j + 1)
+  module _ {d₀ copy₀ todo₀ v₀ rest₀ dst copy todo v rest : List ℕ} {j : ℕ} (s : Rounded w tw cw ns src d₀ copy₀ todo₀ v₀ rest₀ dst copy todo v rest j) (room : w ≤ length d₀) where
+    pub round-on : (dst′ copy′ todo′ v′ rest′ : List ℕ) → j < length ns → length dst′ ≡ length dst → length copy′ ≡ length copy → length todo′ ≡ length todo → length v′ ≡ length v → length rest′ ≡ length rest
+        → ((ms ln : List ℕ) → Ready ms ln w tw cw ns → dst′ ≡ packed w (λ t. member dst t && stays ms ln w tw cw src (getD ns j 0) t) dst) → Rounded w tw cw ns src d₀ copy₀ todo₀ v₀ rest₀ dst′ copy′ todo′ v′ rest′ (j + 1)
     unfolding allBelow
-    round-on dst′ u′ todo′ v′ rest′ h ld lu lt lv lr q = record {
+    round-on dst′ copy′ todo′ v′ rest′ h ld lc lt lv lr q = record {
       within = omega arith;
       long = ld ∙ s .long;
-      long-u = lu ∙ s .long-u;
+      long-copy = lc ∙ s .long-copy;
       long-todo = lt ∙ s .long-todo;
       long-v = lv ∙ s .long-v;
       long-rest = lr ∙ s .long-rest;
@@ -221,6 +226,10 @@ module _ {w : ℕ} {tw cw ns src : List ℕ} where
           ∙ packed-ext last (lasts ms ln w tw cw ns src (j + 1)) d₀ w
           (λ t l. ap (λ x. x && stays ms ln w tw cw src (getD ns j 0) t) (held before d₀ dst w room (s .is ms ln r) t l) ∙ and-assoc (member src t) _ _ ∙ ap (λ k. lasts ms ln w tw cw ns src k t) (sym (add-one j))));
     }
+
+    -- what is left is of the family
+    pub round-within : {ms ln : List ℕ} → Ready ms ln w tw cw ns → Within w dst src
+    round-within {ms} {ln} r t l m = and-both (member src t) _ (sym (held (lasts ms ln w tw cw ns src j) d₀ dst w room (s .is ms ln r) t l) ∙ m) .0
 
 none-all : (f : Form → Bool) (l : List Form) → L.allOf (λ p. not (f p)) l ≡ not (L.anyOf f l)
 none-all f [] = refl
@@ -248,7 +257,7 @@ module _ {ms ln : List ℕ} {w : ℕ} {tw cw ns : List ℕ} (r : Ready ms ln w t
       same true b c f = f refl
       same false b c f = refl
 
-  pub round-end : (d : List ℕ) {d₀ u₀ todo₀ v₀ rest₀ dst u todo v rest : List ℕ} {j : ℕ} → Rounded w tw cw ns src d₀ u₀ todo₀ v₀ rest₀ dst u todo v rest j → length ns ≤ j → w ≤ length d → d₀ ≡ packed w (member src) d
+  pub round-end : (d : List ℕ) {d₀ copy₀ todo₀ v₀ rest₀ dst copy todo v rest : List ℕ} {j : ℕ} → Rounded w tw cw ns src d₀ copy₀ todo₀ v₀ rest₀ dst copy todo v rest j → length ns ≤ j → w ≤ length d → d₀ ≡ packed w (member src) d
       → dst ≡ packed w (λ t. elem t (Round ms ln (listOf w src))) d
   round-end d {d₀} {dst = dst} {j = j} s h k e =
       let q : j ≡ length ns = (let a = s .within in omega arith) in
@@ -258,27 +267,41 @@ module _ {ms ln : List ℕ} {w : ℕ} {tw cw ns : List ℕ} (r : Ready ms ln w t
 
 -- ---- one need
 
-module _ (ms ln : List ℕ) (w : ℕ) (tw cw src dst dst′ : List ℕ) (x : ℕ) where
-  pub kept-ex : (g : ℕ) → g ≡ tagW x → g ≡ 6
-      → dst′ ≡ packed w (λ t. member dst t && (not (has w tw (wholeW x) t) || linkedTo w cw (side w cw (modeW x)) (λ c. member src c && has w tw (leftW x) c) t)) dst
-      → dst′ ≡ packed w (λ t. member dst t && stays ms ln w tw cw src x t) dst
-  unfolding stays hasNext
-  kept-ex g e f q =
-      q ∙ packed-ext (λ t. member dst t && (not (has w tw (wholeW x) t) || linkedTo w cw (side w cw (modeW x)) (λ c. member src c && has w tw (leftW x) c) t)) (λ t. member dst t && stays ms ln w tw cw src x t) dst w
-      (λ t l. ap (λ b. member dst t && cond b (hasNext w tw cw (member src) x t) (not (has w tw (wholeW x) t) || elem t (Good ms ln (listOf w src) (form ms (wholeW x))))) (sym (eq-eqb (tagW x) 6 (sym e ∙ f))))
+module _ (ms ln : List ℕ) (w : ℕ) (tw cw src dst : List ℕ) (x : ℕ) where
+  -- what is left of dst
+  pub kept-as : (dst′ : List ℕ) (P : ℕ → Bool) → dst′ ≡ packed w P dst → ((t : ℕ) → t < w * 64 → P t ≡ (member dst t && stays ms ln w tw cw src x t)) → dst′ ≡ packed w (λ t. member dst t && stays ms ln w tw cw src x t) dst
+  kept-as dst′ P q f = q ∙ packed-ext P (λ t. member dst t && stays ms ln w tw cw src x t) dst w f
 
-  pub kept-until : (u : List ℕ) (g i : ℕ) → g ≡ tagW x → (g ≡ 6 → ⊥) → i ≡ wholeW x
-      → ((t : ℕ) → t < w * 64 → member dst t ≡ true → has w tw i t ≡ true → member u t ≡ elem t (Good ms ln (listOf w src) (form ms i)))
-      → dst′ ≡ packed w (λ t. member dst t && (not (has w tw i t) || member u t)) dst
-      → dst′ ≡ packed w (λ t. member dst t && stays ms ln w tw cw src x t) dst
-  unfolding stays
-  kept-until u g i e f ei h q =
-      q ∙ packed-ext (λ t. member dst t && (not (has w tw i t) || member u t)) (λ t. member dst t && stays ms ln w tw cw src x t) dst w
-      (λ t l. same (member dst t) (has w tw i t) _ _ (h t l)
-      ∙ ap (λ k. member dst t && (not (has w tw k t) || elem t (Good ms ln (listOf w src) (form ms k)))) ei
-      ∙ ap (λ b. member dst t && cond b (hasNext w tw cw (member src) x t) (not (has w tw (wholeW x) t) || elem t (Good ms ln (listOf w src) (form ms (wholeW x))))) (sym (ne-eqb (tagW x) 6 (λ y. f (e ∙ y)))))
-    where
-      same : (a b c d : Bool) → (a ≡ true → b ≡ true → c ≡ d) → (a && (not b || c)) ≡ (a && (not b || d))
-      same true true c d f = f refl refl
-      same true false c d f = refl
-      same false b c d f = refl
+  pub kept-all : ((k : ℕ) → k < w → getD dst k 0 < 2 ^ 64) → ((t : ℕ) → t < w * 64 → member dst t ≡ (member dst t && stays ms ln w tw cw src x t)) → dst ≡ packed w (λ t. member dst t && stays ms ln w tw cw src x t) dst
+  kept-all small = kept-as dst (member dst) (packed-self dst w small)
+
+  -- an EX
+  pub ex-stays : (g : ℕ) → g ≡ tagW x → g ≡ 6 → (t : ℕ) {b : Bool} → b ≡ (member dst t && hasNext w tw cw (member src) x t) → b ≡ (member dst t && stays ms ln w tw cw src x t)
+  ex-stays g e f t q = q ∙ ap (λ b. member dst t && b) (sym (stays-ex ms ln w tw cw src x (sym e ∙ f) t))
+
+  -- an EU or an AU, by the copy that a search leaves
+  module _ (g i : ℕ) (e : g ≡ tagW x) (f : g ≡ 6 → ⊥) (ei : wholeW x ≡ i) (room : w ≤ length src) (sub : Within w dst src) (copy : List ℕ) (found : Finds ms ln w tw src dst i copy) where
+    stays-copy : (t : ℕ) → t < w * 64 → (member dst t && not (member copy t && has w tw (wholeW x) t)) ≡ (member dst t && stays ms ln w tw cw src x t)
+    stays-copy t l =
+        go (member dst t) (member copy t) (has w tw (wholeW x) t) _
+        (λ d h. left-lacks ms ln w tw src dst i room sub copy found t l d (ap (λ k. has w tw k t) (sym ei) ∙ h) ∙ ap (λ k. not (elem t (Good ms ln (listOf w src) (form ms k)))) (sym ei))
+        ∙ ap (λ b. member dst t && b) (sym (stays-other ms ln w tw cw src x (λ y. f (e ∙ y)) t))
+      where
+        go : (d c h e : Bool) → (d ≡ true → h ≡ true → c ≡ not e) → (d && not (c && h)) ≡ (d && (not h || e))
+        go true c true e q = ap not (and-true c ∙ q refl refl) ∙ Bool·not-not e
+        go true c false e q = ap not (and-false c)
+        go false c h e q = refl
+
+    -- those that are left in it
+    pub until-leave : {j : ℕ} → j ≡ wholeW x → (v : List ℕ) → ((t : ℕ) → t < w * 64 → member v t ≡ (member copy t && has w tw j t)) → (t : ℕ) → t < w * 64 → (member dst t && not (member v t)) ≡ (member dst t && stays ms ln w tw cw src x t)
+    until-leave q v h t l = ap (λ b. member dst t && not b) (h t l ∙ ap (λ j. member copy t && has w tw j t) q) ∙ stays-copy t l
+
+    -- none is left
+    pub until-stay : ((t : ℕ) → t < w * 64 → member dst t ≡ true → has w tw (wholeW x) t ≡ true → member copy t ≡ false) → (t : ℕ) → t < w * 64 → member dst t ≡ (member dst t && stays ms ln w tw cw src x t)
+    until-stay none t l = all (member dst t) (member copy t) (has w tw (wholeW x) t) (none t l) ∙ stays-copy t l
+      where
+        all : (d c h : Bool) → (d ≡ true → h ≡ true → c ≡ false) → d ≡ (d && not (c && h))
+        all true true true p = absurd (true≢false (p refl refl))
+        all true true false p = refl
+        all true false h p = refl
+        all false c h p = refl

@@ -2,7 +2,7 @@
 use mathlib.Core.Path.{_≡_}
 use mathlib.Core.Bool.{Bool, true, not, _&&_, _||_, cond}
 use mathlib.Core.List.{List}
-use Prim.Native.Nat.{ℕ, _≤_, _<_}
+use Prim.Native.Nat.{ℕ, _*_, _≤_, _<_}
 use lib.Dec.{eqb}
 use lib.ListN.{length, getD}
 use Rattle.ctl.specs.Elimination as E
@@ -11,7 +11,7 @@ use Rattle.ctl.specs.Formula.{Form, tru, fls, lit, nlit, and, or, ex, ax, eu, a
 use Rattle.ctl.specs.Lists.{anyOf, allOf, elem, imp}
 use Rattle.ctl.specs.Modes.{hasMode, single}
 use Rattle.wordset.specs.Below.{allBelow, anyBelow}
-use Rattle.wordset.specs.Words.{member}
+use Rattle.wordset.specs.Words.{member, minus}
 use Rattle.members.specs.Members.{argW, forms, leftW, tagW}
 use Rattle.truth.specs.Blocks.{has, listOf}
 use Rattle.truth.specs.Tables.{Table, form, tagAt}
@@ -42,6 +42,14 @@ pub record Until (ms : List ℕ) (x i : ℕ) : Type 0 where
   pub high : tagAt ms i ≤ 9
   pub is : x ≡ needOf ms i
 
+-- the types of dst are types of src
+abbrev pub Within : ℕ → List ℕ → List ℕ → Type 0
+Within w dst src = (t : ℕ) → t < w * 64 → member dst t ≡ true → member src t ≡ true
+
+-- the ranked types, by words: those of the family src that are no longer in the copy
+abbrev pub ranked : ℕ → List ℕ → List ℕ → List ℕ
+ranked w src copy = minus w src copy
+
 -- ---- what a need asks of type t against a set, by words
 
 -- need x is an EX over one of the modes a
@@ -60,6 +68,10 @@ module _ (w : ℕ) (tw cw : List ℕ) where
   -- what an EU or an AU asks of a type with its left operand
   unfoldable pub wants : List ℕ → (ℕ → Bool) → ℕ → ℕ → Bool
   wants ns U x t = cond (eqb (tagW x) 8) (anyBelow 16 (λ m. hasMode (argW x) m && linkedTo w cw (side w cw m) U t)) (hasNexts ns U (argW x) t)
+
+  -- t has the left operand of x, an EU or an AU, and what it asks for against the ranked types
+  abbrev pub leaving : List ℕ → List ℕ → List ℕ → ℕ → ℕ → Bool
+  leaving ns src copy x t = has w tw (leftW x) t && wants ns (member (ranked w src copy)) x t
 
 -- ctl's elimination, over the closure, the truth and the links of a table under a lean
 module _ (ms ln : List ℕ) where
@@ -106,3 +118,7 @@ module _ (ms ln : List ℕ) where
   -- t keeps its place in a family that is held by the words src, as far as need x goes
   unfoldable pub stays : ℕ → List ℕ → List ℕ → List ℕ → ℕ → ℕ → Bool
   stays w tw cw src x t = cond (eqb (tagW x) 6) (hasNext w tw cw (member src) x t) (not (has w tw (wholeW x) t) || elem t (Good (listOf w src) (form ms (wholeW x))))
+
+  -- what a search for member i finds in the family src, told by the copy that it leaves: of the types of dst in which the member is true, those are ranked that have what it asks for
+  abbrev pub Finds : ℕ → List ℕ → List ℕ → List ℕ → ℕ → List ℕ → Type 0
+  Finds w tw src dst i copy = (t : ℕ) → t < w * 64 → member dst t ≡ true → has w tw i t ≡ true → member (ranked w src copy) t ≡ elem t (Good (listOf w src) (form ms i))

@@ -3,4 +3,5 @@
 // which member i is true), cw the condition words (which types demand and refuse what links ask for) and ns the needs (what rounds ask
 // for). Assumes nothing.
 pub mod eliminate;
+mod search;
 pub mod table;

@@ -27,19 +27,19 @@ pub fn table(
     base: &[u64],
     first: &mut [u64],
     second: &mut [u64],
-    u: &mut [u64],
+    copy: &mut [u64],
     todo: &mut [u64],
     v: &mut [u64],
     rest: &mut [u64],
 ) -> Counts
     requires { ⌜ Ready (now ms) (now ln) w (now tw) (now cw) (now ns) ⌝ }
-    requires { ⌜ (w ≤ length (now first)) × (w ≤ length (now second)) × (w ≤ length (now u)) × (w ≤ length (now todo)) × (w ≤ length (now v)) × (w ≤ length (now rest)) ⌝ }
+    requires { ⌜ (w ≤ length (now first)) × (w ≤ length (now second)) × (w ≤ length (now copy)) × (w ≤ length (now todo)) × (w ≤ length (now v)) × (w ≤ length (now rest)) ⌝ }
     requires { ⌜ Named (now names) (length (now ln)) × ((2 ^ length (now ln) ≤ w * 64) × (w + w ≤ length (now base))) ⌝ }
     ensures { λ c. ⌜ Tabled (startList w (now (base .entry)) (now (names .entry)) (length (now (ln .entry))) r) (Survivors (now (ms .entry)) (now (ln .entry)) (startList w (now (base .entry)) (now (names .entry)) (length (now (ln .entry))) r)) (Rounds (now (ms .entry)) (now (ln .entry)) (startList w (now (base .entry)) (now (names .entry)) (length (now (ln .entry))) r)) w (now (first .entry)) (now (second .entry)) (now (first .exit)) (now (second .exit)) c ⌝ }
 {
     start_words(names, ln.len(), r, w, base, first);
     let s = wordset::size(first, w);
-    let n = settle(ns, tw, cw, w, first, second, u, todo, v, rest);
+    let n = settle(ns, tw, cw, w, first, second, copy, todo, v, rest);
     let l = wordset::size(first, w);
     Counts {
         start: s,

@@ -1,7 +1,7 @@
 -- Sets of numbers in the first w words: tests of the numbers below a bound, stores into which a set was packed, and the members as an
 -- ascending list. For any word count. Assumes nothing.
 use mathlib.Core.Path.{_≡_, refl, sym, ap, ap₂, _∙_}
-use mathlib.Core.Bool.{not, _||_, and-true, and-assoc, Bool, true, false, _&&_}
+use mathlib.Core.Bool.{not, and-true, and-assoc, Bool, true, false, _&&_}
 use mathlib.Core.List.{List, [], _∷_, map}
 use Prim.Native.Nat.{ℕ, zero, suc, _+_, _*_, _≤_, _<_}
 use native.Mathlib.Omega.{arith}
@@ -15,7 +15,7 @@ use Rattle.ctl.proofs.SortLaws.{ascending-same}
 use Rattle.ctl.specs.Lists.{_∈_, below, elem, keep, countFrom, put}
 use Rattle.wordset.proofs.BelowLaws.{count-ext, count-front}
 use Rattle.wordset.specs.Below.{anyBelow, allBelow, countBelow, one}
-use Rattle.wordset.specs.Words.{member, packed, minus, join}
+use Rattle.wordset.specs.Words.{member, packed, minus}
 use Rattle.wordset.proofs.WordLaws.{member-packed}
 use Rattle.members.proofs.ModeLaws.{some-below, some-in}
 use Rattle.truth.specs.Blocks.{has, listOf}
@@ -42,9 +42,6 @@ pick-member d s tw l w i = held (λ t. member s t && has w tw i t) d l w
 
 pub minus-member : (d s l : List ℕ) (w : ℕ) → w ≤ length d → l ≡ minus w d s → (t : ℕ) → t < w * 64 → member l t ≡ (member d t && not (member s t))
 minus-member d s l w = held (λ t. member d t && not (member s t)) d l w
-
-pub join-member : (d s l : List ℕ) (w : ℕ) → w ≤ length d → l ≡ join w d s → (t : ℕ) → t < w * 64 → member l t ≡ (member d t || member s t)
-join-member d s l w = held (λ t. member d t || member s t) d l w
 
 -- ---- the list
 

@@ -1,4 +1,4 @@
--- The loop that packs a set and notes whether it, or another set, has a member. For any word count. Assumes nothing.
+-- The loop that notes whether a set has a member, and the one that packs a set besides. For any word count. Assumes nothing.
 use mathlib.Core.Path.{_≡_, refl, sym, ap, ap₂, _∙_, subst}
 use mathlib.Core.Bool.{Bool, true, false, not, _&&_, _||_, or-false}
 use mathlib.Core.List.{List}
@@ -29,37 +29,60 @@ any-or P Q (suc n) = swap (anyBelow n P) (P n) (anyBelow n Q) (Q n) ∙ ap (λ b
     swap false true false q = refl
     swap false false b q = refl
 
--- the first k words of l hold the numbers that pass P, and word any has a number if one of the first k words' numbers passes Q
-pub record Packing (P Q : ℕ → Bool) (d : List ℕ) (w : ℕ) (l : List ℕ) (any k : ℕ) : Type 0 where
-  pub fill : Filling (packWord P) d w l k
+-- word any has a number exactly if one of the first k words' numbers passes Q
+pub record Noting (Q : ℕ → Bool) (w any k : ℕ) : Type 0 where
+  pub within : k ≤ w
   pub small : any < 2 ^ 64
   pub some : anyBelow (k * 64) Q ≡ anyBelow 64 (bit any)
 
-module _ {P Q : ℕ → Bool} {d : List ℕ} {w : ℕ} where
-  pub pack-start : Packing P Q d w d 0 0
+module _ {Q : ℕ → Bool} {w : ℕ} where
+  pub note-start : Noting Q w 0 0
   unfolding anyBelow
-  pack-start = record { fill = begins; small = omega arith; some = sym (any-none (bit 0) 64 (λ b l. bit-none b)) }
+  note-start = record { within = omega arith; small = omega arith; some = sym (any-none (bit 0) 64 (λ b l. bit-none b)) }
 
-  module _ {l : List ℕ} {any k : ℕ} (s : Packing P Q d w l any k) (h : k < w) where
+  module _ {any k : ℕ} (s : Noting Q w any k) where
     -- the numbers of the next word
     grows : {y : ℕ} → Answers Q k y → anyBelow ((k + 1) * 64) Q ≡ (anyBelow 64 (bit any) || anyBelow 64 (bit y))
     grows {y} b =
         let q : (k + 1) * 64 ≡ k * 64 + 64 = omega arith in
         ap (λ (n : ℕ). anyBelow n Q) q ∙ any-add Q (k * 64) 64 ∙ ap₂ _||_ (s .some) (any-ext (λ j. Q (k * 64 + j)) (bit y) 64 (b .each))
 
-    pub pack-on : {x y : ℕ} → Answers P k x → Answers Q k y → Packing P Q d w (set l k x) (bitOr any y) (k + 1)
-    pack-on {x} {y} a b = record {
-      fill = goes x (s .fill) h (answers-word a);
+    pub note-on : {y : ℕ} → k < w → Answers Q k y → Noting Q w (bitOr any y) (k + 1)
+    note-on {y} h b = record {
+      within = omega arith;
       small = or-lt 64 any y (s .small) (b .small);
       some = grows b ∙ any-or (bit any) (bit y) 64 ∙ any-ext (λ j. bit any j || bit y j) (bit (bitOr any y)) 64 (λ j l. sym (bit-or any y j));
     }
 
-  module _ {l : List ℕ} {any k : ℕ} (s : Packing P Q d w l any k) (h : w ≤ k) where
-    pub pack-end : l ≡ packed w P d
-    pack-end = ends (s .fill) h
+    -- a word without numbers
+    note-stay : k < w → Answers Q k 0 → Noting Q w any (k + 1)
+    note-stay h b = record {
+      within = omega arith;
+      small = s .small;
+      some = grows b ∙ ap (λ b. anyBelow 64 (bit any) || b) (any-none (bit 0) 64 (λ b l. bit-none b)) ∙ or-false (anyBelow 64 (bit any));
+    }
 
-    pub pack-any : not (eqb any 0) ≡ anyBelow (w * 64) Q
-    pack-any = let b = s .fill .within in let q : k ≡ w = omega arith in sym (any-bit 64 any (s .small)) ∙ sym (s .some) ∙ ap (λ (n : ℕ). anyBelow (n * 64) Q) q
+    pub note-end : w ≤ k → not (eqb any 0) ≡ anyBelow (w * 64) Q
+    note-end h = let b = s .within in let q : k ≡ w = omega arith in sym (any-bit 64 any (s .small)) ∙ sym (s .some) ∙ ap (λ (n : ℕ). anyBelow (n * 64) Q) q
+
+-- the first k words of l hold the numbers that pass P, and word any notes Q
+pub record Packing (P Q : ℕ → Bool) (d : List ℕ) (w : ℕ) (l : List ℕ) (any k : ℕ) : Type 0 where
+  pub fill : Filling (packWord P) d w l k
+  pub note : Noting Q w any k
+
+module _ {P Q : ℕ → Bool} {d : List ℕ} {w : ℕ} where
+  pub pack-start : Packing P Q d w d 0 0
+  pack-start = record { fill = begins; note = note-start }
+
+  module _ {l : List ℕ} {any k : ℕ} (s : Packing P Q d w l any k) where
+    pub pack-on : {x y : ℕ} → k < w → Answers P k x → Answers Q k y → Packing P Q d w (set l k x) (bitOr any y) (k + 1)
+    pack-on {x} h a b = record { fill = goes x (s .fill) h (answers-word a); note = note-on (s .note) h b }
+
+    pub pack-end : w ≤ k → l ≡ packed w P d
+    pack-end = ends (s .fill)
+
+    pub pack-any : w ≤ k → not (eqb any 0) ≡ anyBelow (w * 64) Q
+    pack-any = note-end (s .note)
 
 pub pack-as : {P Q : ℕ → Bool} {d : List ℕ} {w : ℕ} {l l′ : List ℕ} {any any′ k : ℕ} → l′ ≡ l → any′ ≡ any → Packing P Q d w l any k → Packing P Q d w l′ any′ k
 pack-as {P} {Q} {d} {w} {l} {l′} {any} {any′} {k} e q s = subst (λ (m : List ℕ). Packing P Q d w m any′ k) (sym e) (subst (λ (n : ℕ). Packing P Q d w l n k) (sym q) s)
@@ -69,8 +92,7 @@ pub pack-stay : (R : ℕ → Bool) {d : List ℕ} {w : ℕ} {l : List ℕ} {any 
     → Packing (λ t. member d t && R t) (λ t. member d t && R t) d w l any (k + 1)
 pack-stay R {d} {w} {l} {any} {k} s h f z = record {
   fill = subst (λ (m : List ℕ). Filling (packWord P) d w m (k + 1)) (ap (λ (v : ℕ). set l k v) (sym z) ∙ set-getD l k 0) (goes 0 (s .fill) h (answers-word a));
-  small = s .small;
-  some = grows s h a ∙ ap (λ b. anyBelow 64 (bit any) || b) (any-none (bit 0) 64 (λ b l. bit-none b)) ∙ or-false (anyBelow 64 (bit any));
+  note = note-stay (s .note) h a;
 }
   where
     P : ℕ → Bool

@@ -1,10 +1,10 @@
 // Sets of numbers as bits of 64-bit words: number j is bit j mod 64 of word j div 64. Every function takes any word count.
 ghost use mathlib.Core.Path.{_≡_};
-ghost use mathlib.Core.Bool.{Bool·beq, false, _&&_, cond};
+ghost use mathlib.Core.Bool.{Bool·beq, not, _&&_};
 ghost use Prim.Native.Nat.{ℕ, _+_, _*_, _^_, _≤_, _<_};
 ghost use lib.ListN.{length};
 ghost use Rattle.wordset.specs.Below.{allBelow, anyBelow, countBelow, least};
-ghost use Rattle.wordset.specs.Words.{member, packed, join, minus};
+ghost use Rattle.wordset.specs.Words.{member, packed, minus};
 
 // Whether j is a member.
 pub fn contains(ws: &[u64], j: usize) -> bool
@@ -26,31 +26,31 @@ pub fn copy(dst: &mut [u64], src: &[u64], w: usize)
     }
 }
 
-// dst := dst ∪ src, in the first w words: whether src has any.
-pub fn unite(dst: &mut [u64], src: &[u64], w: usize) -> bool
+// dst := dst less src, in the first w words: whether src has any.
+pub fn subtract(dst: &mut [u64], src: &[u64], w: usize) -> bool
     requires { ⌜ (w ≤ length (now dst)) × (w ≤ length (now src)) ⌝ }
-    ensures { λ _. ⌜ now (dst .exit) ≡ join w (now (dst .entry)) (now (src .entry)) ⌝ }
+    ensures { λ _. ⌜ now (dst .exit) ≡ minus w (now (dst .entry)) (now (src .entry)) ⌝ }
     ensures { λ b. ⌜ b ≡ anyBelow (w * 64) (member (now (src .entry))) ⌝ }
 {
     let mut any: u64 = 0;
     let mut i = 0;
     while i < w {
         let x = src[i];
-        dst[i] = dst[i] | x;
+        dst[i] = dst[i] & !x;
         any = any | x;
         i += 1;
     }
     any != 0
 }
 
-// dst := dst less src, in the first w words.
-pub fn subtract(dst: &mut [u64], src: &[u64], w: usize)
-    requires { ⌜ (w ≤ length (now dst)) × (w ≤ length (now src)) ⌝ }
-    ensures { λ _. ⌜ now (dst .exit) ≡ minus w (now (dst .entry)) (now (src .entry)) ⌝ }
+// dst := a less b, in the first w words.
+pub fn less(dst: &mut [u64], a: &[u64], b: &[u64], w: usize)
+    requires { ⌜ (w ≤ length (now dst)) × (w ≤ length (now a)) × (w ≤ length (now b)) ⌝ }
+    ensures { λ _. ⌜ now (dst .exit) ≡ packed w (λ j. member (now (a .entry)) j && not (member (now (b .entry)) j)) (now (dst .entry)) ⌝ }
 {
     let mut i = 0;
     while i < w {
-        dst[i] = dst[i] & !src[i];
+        dst[i] = a[i] & !b[i];
         i += 1;
     }
 }

@@ -7,64 +7,48 @@ use Rattle.judge.specs.Judged.{goalsAt}
 use Rattle.judge.proofs.JudgeLaws.{Judging, Kept, judge-start, judge-moved, judge-next, judge-open, judge-end, room-kept, kept-start, kept-more}
 use Rattle.judge.proofs.judge.Statement.{statement}
 use Rattle.judge.proofs.judge.Tie as tie
-use Rattle.judge.proofs.judge.Reads as reads
-use Rattle.judge.proofs.judge.Lts as lts
-use Rattle.judge.proofs.try_naming.Reads as try-naming-reads
-use Rattle.naming.proofs.advanced.Reads as advanced-reads
-use Rattle.naming.proofs.first.Reads as first-reads
 
 abbrev Inv-loop : tie.InvT-loop
-Inv-loop ms ln w tw cw ns names base goal namings first₀ second₀ u₀ todo₀ v₀ rest₀ n₀ first second u todo v rest n =
-    Judging (goalsAt ms ln w base names goal) namings (n .number) × ((n .count ≡ namings) × Kept first₀ second₀ u₀ todo₀ v₀ rest₀ first second u todo v rest)
+Inv-loop ms ln w tw cw ns names base goal namings first₀ second₀ copy₀ todo₀ v₀ rest₀ n₀ first second copy todo v rest n =
+    Judging (goalsAt ms ln w base names goal) namings (n .number) × ((n .count ≡ namings) × Kept first₀ second₀ copy₀ todo₀ v₀ rest₀ first second copy todo v rest)
 
 abbrev μ-loop : tie.MeasureT-loop
-μ-loop ms ln w tw cw ns names base goal namings first₀ second₀ u₀ todo₀ v₀ rest₀ n₀ first second u todo v rest n =
+μ-loop ms ln w tw cw ns names base goal namings first₀ second₀ copy₀ todo₀ v₀ rest₀ n₀ first second copy todo v rest n =
     n .count - n .number
 
--- src/lib.rt:113:9
 first-requires : tie.Need-first-requires Inv-loop μ-loop
 first-requires c κs = search needs
 
--- src/lib.rt:114:5
 loop-holds : tie.Need-loop-holds Inv-loop μ-loop
 loop-holds c = (judge-moved judge-start (start-number (c .first .result) (c .first .ensures)), (start-count (c .first .result) (c .first .ensures), kept-start))
 
--- src/lib.rt:116:13
 try-naming-requires : tie.Need-try-naming-requires Inv-loop μ-loop
 try-naming-requires c κs =
     let b8 = c .before .before .before .before .before .before .before .before in
     let b23 = b8 .before .before .before .before .before .before .before .before .before .before .before .before .before .before .before in
     (b23 .pre .0, (room-kept (b23 .pre .1 .0) (b8 .loop .inv .1 .1), b23 .pre .1 .1))
 
--- src/lib.rt:134:26
 enum-known-found : tie.Need-enum-known-found Inv-loop μ-loop
 enum-known-found c = search needs
 
--- src/lib.rt:135:13
 same-length : tie.Need-same-length Inv-loop μ-loop
 same-length c = search needs
 
--- src/lib.rt:135:13
 same-length-2 : tie.Need-same-length-2 Inv-loop μ-loop
 same-length-2 c = search needs
 
--- src/lib.rt:135:13
 same-length-3 : tie.Need-same-length-3 Inv-loop μ-loop
 same-length-3 c = search needs
 
--- src/lib.rt:135:13
 same-length-4 : tie.Need-same-length-4 Inv-loop μ-loop
 same-length-4 c = search needs
 
--- src/lib.rt:135:13
 same-length-5 : tie.Need-same-length-5 Inv-loop μ-loop
 same-length-5 c = search needs
 
--- src/lib.rt:135:13
 same-length-6 : tie.Need-same-length-6 Inv-loop μ-loop
 same-length-6 c = search needs
 
--- src/lib.rt:135:13
 returns : tie.Need-returns Inv-loop μ-loop
 returns c =
     let b1 = c .before in
@@ -76,51 +60,41 @@ returns c =
 enum-told : tie.Need-enum-told Inv-loop μ-loop
 enum-told c = search needs
 
--- src/lib.rt:140:9
 advanced-requires : tie.Need-advanced-requires Inv-loop μ-loop
 advanced-requires c κs = search needs
 
--- src/lib.rt:114:5
 loop-less : tie.Need-loop-less Inv-loop μ-loop
 loop-less c =
     let b22 = c .before .before .before .before .before .before .before .before .before .before .before .before .before .before .before .before .before .before .before .before .before .before in
     let b24 = b22 .before .before in
     next-less (b24 .loop .n) (c .advanced .result) (c .advanced .ensures) (b22 .if1 .taken)
 
--- src/lib.rt:114:5
 loop-again : tie.Need-loop-again Inv-loop μ-loop
 loop-again c =
     let b1 = c .before in
     let b15 = b1 .before .before .before .before .before .before .before .before .before .before .before .before .before .before in
     let b22 = b15 .before .before .before .before .before .before .before in
     let b24 = b22 .before .before in
-    let now = b24 .loop in let next = c .advanced in let kept = b15 .try-naming .kept .1 .1 .1 .1 .1 .1 .1 .1 .1 .1 in let none = sym (b15 .try-naming .ensures) ∙ b1 .enum-told .given .1 in (judge-moved (judge-next (now .inv .0) (in-hand (now .n) (now .inv .1 .0) (b22 .if1 .taken)) none) (next-number (now .n) (next .result) (next .ensures) (b22 .if1 .taken)), (next-count (now .n) (next .result) (next .ensures) (now .inv .1 .0), kept-more (now .inv .1 .1) (record { first-long = kept .0; second-long = kept .1 .0; u-long = kept .1 .1 .0; todo-long = kept .1 .1 .1 .0; v-long = kept .1 .1 .1 .1 .0; rest-long = kept .1 .1 .1 .1 .1 .0 })))
+    let now = b24 .loop in let next = c .advanced in let kept = b15 .try-naming .kept .1 .1 .1 .1 .1 .1 .1 .1 .1 .1 in let none = sym (b15 .try-naming .ensures) ∙ b1 .enum-told .given .1 in (judge-moved (judge-next (now .inv .0) (in-hand (now .n) (now .inv .1 .0) (b22 .if1 .taken)) none) (next-number (now .n) (next .result) (next .ensures) (b22 .if1 .taken)), (next-count (now .n) (next .result) (next .ensures) (now .inv .1 .0), kept-more (now .inv .1 .1) (record { first-long = kept .0; second-long = kept .1 .0; copy-long = kept .1 .1 .0; todo-long = kept .1 .1 .1 .0; v-long = kept .1 .1 .1 .1 .0; rest-long = kept .1 .1 .1 .1 .1 .0 })))
 
--- src/lib.rt:90:1
 same-length-7 : tie.Need-same-length-7 Inv-loop μ-loop
 same-length-7 c = search needs
 
--- src/lib.rt:90:1
 same-length-8 : tie.Need-same-length-8 Inv-loop μ-loop
 same-length-8 c = search needs
 
--- src/lib.rt:90:1
 same-length-9 : tie.Need-same-length-9 Inv-loop μ-loop
 same-length-9 c = search needs
 
--- src/lib.rt:90:1
 same-length-10 : tie.Need-same-length-10 Inv-loop μ-loop
 same-length-10 c = search needs
 
--- src/lib.rt:90:1
 same-length-11 : tie.Need-same-length-11 Inv-loop μ-loop
 same-length-11 c = search needs
 
--- src/lib.rt:90:1
 same-length-12 : tie.Need-same-length-12 Inv-loop μ-loop
 same-length-12 c = search needs
 
--- src/lib.rt:90:1
 returns-2 : tie.Need-returns-2 Inv-loop μ-loop
 returns-2 c =
     let b2 = c .before .before in

@@ -16,7 +16,7 @@ settle-requires : tie.Need-settle-requires
 settle-requires c κs =
     let b8 = c .before .before .before .before .before .before .before .before in
     let b23 = b8 .before .before .before .before .before .before .before .before .before .before .before .before .before .before .before in
-    let room = b23 .pre .1 .0 in ((b23 .args .ms .now, b23 .args .ln .now, b23 .pre .0), (subst (λ n. b23 .args .w ≤ n) (sym (b8 .start-words .kept .1 .1 .1 .1 .1 .0)) (room .first-room), room .second-room, room .u-room, room .todo-room, room .v-room, room .rest-room))
+    let room = b23 .pre .1 .0 in ((b23 .args .ms .now, b23 .args .ln .now, b23 .pre .0), (subst (λ n. b23 .args .w ≤ n) (sym (b8 .start-words .kept .1 .1 .1 .1 .1 .0)) (room .first-room), room .second-room, room .copy-room, room .todo-room, room .v-room, room .rest-room))
 
 goal-type-requires : tie.Need-goal-type-requires
 goal-type-requires c κs =

@@ -1,58 +1,29 @@
--- `subtract` meets its contract: after i turns the first i words of dst hold the numbers that are in dst and not in src. Assumes nothing.
+-- `subtract` meets its contract: after i turns the first i words of dst hold the numbers that are in dst and not in src, and `any` tells whether src has one of them. Assumes nothing.
 use mathlib.Core.Bool.{_&&_, not}
 use Prim.Native.Nat.{_-_}
 use Rattle.wordset.specs.Words.{member}
-use Rattle.wordset.proofs.PackLaws.{packWord}
-use Rattle.wordset.proofs.AnswersLaws.{answers-word, word-answers, minus-answers}
-use Rattle.wordset.proofs.Filling.{Filling, begins, goes, ends, next-answers}
+use Rattle.wordset.proofs.AnswersLaws.{minus-answers, word-answers}
+use Rattle.wordset.proofs.Filling.{next-answers}
+use Rattle.wordset.proofs.Packing.{Packing, pack-any, pack-end, pack-on, pack-start}
 use borrow.Author.Needs.{needs}
 use Rattle.wordset.proofs.subtract.Statement.{statement}
 use Rattle.wordset.proofs.subtract.Tie as tie
 
 abbrev Inv-loop : tie.InvT-loop
-Inv-loop dst₀ src w i₀ dst i = Filling (packWord (λ j. member dst₀ j && not (member src j))) dst₀ w dst i
+Inv-loop dst₀ src w any₀ i₀ dst any i = Packing (λ j. member dst₀ j && not (member src j)) (member src) dst₀ w dst any i
 
 abbrev μ-loop : tie.MeasureT-loop
-μ-loop dst₀ src w i₀ dst i = w - i
-
-loop-holds : tie.Need-loop-holds Inv-loop μ-loop
-loop-holds c = begins
-
-mul-dst : tie.Need-mul-dst Inv-loop μ-loop
-mul-dst c = search needs
-
-slice-read-dst : tie.Need-slice-read-dst Inv-loop μ-loop
-slice-read-dst c = search needs
-
-mul-dst-2 : tie.Need-mul-dst-2 Inv-loop μ-loop
-mul-dst-2 c = search needs
-
-shared-slice-read-dst : tie.Need-shared-slice-read-dst Inv-loop μ-loop
-shared-slice-read-dst c = search needs
-
-mul-dst-3 : tie.Need-mul-dst-3 Inv-loop μ-loop
-mul-dst-3 c = search needs
-
-slice-write-dst : tie.Need-slice-write-dst Inv-loop μ-loop
-slice-write-dst c = search needs
-
-add-i : tie.Need-add-i Inv-loop μ-loop
-add-i c = search needs
-
-loop-less : tie.Need-loop-less Inv-loop μ-loop
-loop-less c = search needs
+μ-loop dst₀ src w any₀ i₀ dst any i = w - i
 
 loop-again : tie.Need-loop-again Inv-loop μ-loop
 loop-again c =
-    let at = c .before .before .before in
-    goes _ (at .loop .inv) (c .before .before .loop-test .taken)
-    (answers-word (minus-answers (next-answers (at .loop .inv) (c .before .slice-known .given _ .fits)) (word-answers _ _ (c .shared-slice-known .given _ .fits))))
-
-same-length : tie.Need-same-length Inv-loop μ-loop
-same-length c = search needs
+    let b2 = c .before .before in
+    let b3 = b2 .before in
+    let a = word-answers _ _ (c .before .shared-slice-known .given _ .fits) in
+    pack-on (b3 .loop .inv) (b2 .loop-test .taken) (minus-answers (next-answers (b3 .loop .inv .fill) (c .slice-known .given _ .fits)) a) a
 
 returns : tie.Need-returns Inv-loop μ-loop
-returns c = ends (c .before .loop .inv) (c .loop-test .left)
+returns c = let s = c .before .loop .inv in (pack-end s (c .loop-test .left), pack-any s (c .loop-test .left))
 
 pub subtract-spec : {M : Type 1} → statement M
 subtract-spec =
@@ -60,15 +31,15 @@ subtract-spec =
     (tie.spec
     Inv-loop
     μ-loop
-    loop-holds
-    mul-dst
-    slice-read-dst
-    mul-dst-2
-    shared-slice-read-dst
-    mul-dst-3
-    slice-write-dst
-    add-i
-    loop-less
+    (λ c. pack-start)
+    (λ c. search needs)
+    (λ c. search needs)
+    (λ c. search needs)
+    (λ c. search needs)
+    (λ c. search needs)
+    (λ c. search needs)
+    (λ c. search needs)
+    (λ c. search needs)
     loop-again
-    same-length
+    (λ c. search needs)
     returns)

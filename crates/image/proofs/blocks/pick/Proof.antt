@@ -1,7 +1,6 @@
 -- `pick` meets its contract: after k turns the first k words of dst hold the numbers that are in src and in block i, and `any` tells whether there are any. Assumes nothing.
 use mathlib.Core.Bool.{_&&_}
 use Prim.Native.Nat.{_-_}
-use native.Mathlib.Omega.{arith}
 use borrow.Author.Needs.{needs}
 use Rattle.wordset.proofs.AnswersLaws.{and-answers, word-answers}
 use Rattle.wordset.proofs.Packing.{Packing, pack-any, pack-end, pack-on, pack-start}
@@ -16,9 +15,6 @@ Inv-loop dst₀ src tw w i any₀ k₀ dst any k = Packing (λ t. member src t &
 
 abbrev μ-loop : tie.MeasureT-loop
 μ-loop dst₀ src tw w i any₀ k₀ dst any k = w - k
-
-slice-write-dst : tie.Need-slice-write-dst Inv-loop μ-loop
-slice-write-dst c = let l = c .before .before .before .loop .inv .fill .long in let h = c .before .before .before .before .pre .0 in omega arith
 
 loop-again : tie.Need-loop-again Inv-loop μ-loop
 loop-again c =
@@ -36,16 +32,16 @@ pick-spec =
     Inv-loop
     μ-loop
     (λ c. pack-start)
-    (λ c. omega (arith, c .before .before .pre .2))
-    (λ c. omega (arith, c .before .before .pre .2))
     (λ c. search needs)
     (λ c. search needs)
-    (λ c. omega (arith, c .before .before .before .pre .2))
-    (λ c. omega (arith, c .before .before .before .before .pre .2))
     (λ c. search needs)
-    slice-write-dst
+    (λ c. search needs)
+    (λ c. search needs)
+    (λ c. search needs)
+    (λ c. search needs)
+    (λ c. search needs)
     (λ c. search needs)
     (λ c. search needs)
     loop-again
-    (λ c. c .before .loop .inv .fill .long)
+    (λ c. search needs)
     returns)

@@ -1,23 +1,18 @@
 -- `round` meets its contract: after j turns dst holds those of src that keep their place as far as the first j needs go. Assumes nothing.
-use mathlib.Core.Path.{refl, _∙_}
+use mathlib.Core.Path.{refl}
 use Prim.Native.Nat.{_-_}
 use native.Mathlib.Omega.{arith}
 use borrow.Author.Needs.{needs}
 use lib.ListN.{length}
-use Rattle.tableau.proofs.Rounding.{Rounded, round-end, round-on, round-start}
+use Rattle.tableau.proofs.Rounding.{Rounded, round-end, round-on, round-start, round-within}
 use Rattle.tableau.proofs.eliminate.round.Statement.{statement}
 use Rattle.tableau.proofs.eliminate.round.Tie as tie
 
 abbrev Inv-loop : tie.InvT-loop
-Inv-loop ns tw cw w src dst₀ u₀ todo₀ v₀ rest₀ j₀ dst u todo v rest j = Rounded w tw cw ns src dst₀ u₀ todo₀ v₀ rest₀ dst u todo v rest j
+Inv-loop ns tw cw w src dst₀ copy₀ todo₀ v₀ rest₀ j₀ dst copy todo v rest j = Rounded w tw cw ns src dst₀ copy₀ todo₀ v₀ rest₀ dst copy todo v rest j
 
 abbrev μ-loop : tie.MeasureT-loop
-μ-loop ns tw cw w src dst₀ u₀ todo₀ v₀ rest₀ j₀ dst u todo v rest j = length ns - j
-
-copy-requires : tie.Need-copy-requires Inv-loop μ-loop
-copy-requires c κs =
-    let b10 = c .before .before .before .before .before .before .before .before .before .before in
-    (b10 .pre .1 .1, b10 .pre .1 .0)
+μ-loop ns tw cw w src dst₀ copy₀ todo₀ v₀ rest₀ j₀ dst copy todo v rest j = length ns - j
 
 loop-holds : tie.Need-loop-holds Inv-loop μ-loop
 loop-holds c =
@@ -31,17 +26,7 @@ eliminate-need-requires c κs =
     let b7 = b6 .before in
     let b10 = b7 .before .before .before in
     let b21 = b10 .before .before .before .before .before .before .before .before .before .before .before in
-    (((_, b6 .loop-test .taken, refl), b21 .pre .0), (b21 .pre .1 .0, (let l = b7 .loop .inv .long in let h = b21 .pre .1 .1 in let k = b10 .copy .kept .0 in omega arith), (let l = b7 .loop .inv .long-u in let h = b21 .pre .1 .2 in omega arith), (let l = b7 .loop .inv .long-todo in let h = b21 .pre .1 .3 in omega arith), (let l = b7 .loop .inv .long-v in let h = b21 .pre .1 .4 in omega arith), (let l = b7 .loop .inv .long-rest in let h = b21 .pre .1 .5 in omega arith)))
-
-add-j : tie.Need-add-j Inv-loop μ-loop
-add-j c =
-    let b17 = c .before .before .before .before .before .before .before .before .before .before .before .before .before .before .before .before .before in
-    omega (arith, b17 .loop-test .taken)
-
-loop-less : tie.Need-loop-less Inv-loop μ-loop
-loop-less c =
-    let b17 = c .before .before .before .before .before .before .before .before .before .before .before .before .before .before .before .before .before in
-    omega (arith, b17 .loop-test .taken)
+    (((_, b6 .loop-test .taken, refl), b21 .pre .0), ((b21 .pre .1 .0, (let l = b7 .loop .inv .long in let h = b21 .pre .1 .1 in let k = b10 .copy .kept .0 in omega arith), (let l = b7 .loop .inv .long-copy in let h = b21 .pre .1 .2 in omega arith), (let l = b7 .loop .inv .long-todo in let h = b21 .pre .1 .3 in omega arith), (let l = b7 .loop .inv .long-v in let h = b21 .pre .1 .4 in omega arith), (let l = b7 .loop .inv .long-rest in let h = b21 .pre .1 .5 in omega arith)), round-within (b7 .loop .inv) (let k = b10 .copy .kept .0 in let h = b21 .pre .1 .1 in omega arith) (b21 .pre .0 .2)))
 
 loop-again : tie.Need-loop-again Inv-loop μ-loop
 loop-again c =
@@ -51,39 +36,6 @@ loop-again c =
     let b21 = b18 .before .before .before in
     let b32 = b21 .before .before .before .before .before .before .before .before .before .before .before in
     round-on (b18 .loop .inv) (let k = b21 .copy .kept .0 in let h = b32 .pre .1 .1 in omega arith) _ _ _ _ _ (b17 .loop-test .taken) (b10 .eliminate-need .kept .1 .1 .1 .1 .1 .1 .0) (b10 .eliminate-need .kept .1 .1 .1 .1 .1 .1 .1 .0) (b10 .eliminate-need .kept .1 .1 .1 .1 .1 .1 .1 .1 .0) (b10 .eliminate-need .kept .1 .1 .1 .1 .1 .1 .1 .1 .1 .0) (b10 .eliminate-need .kept .1 .1 .1 .1 .1 .1 .1 .1 .1 .1 .0) (b10 .eliminate-need .ensures)
-
-equal-requires : tie.Need-equal-requires Inv-loop μ-loop
-equal-requires c κs =
-    let b2 = c .before .before in
-    let b5 = b2 .before .before .before in
-    let b16 = b5 .before .before .before .before .before .before .before .before .before .before .before in
-    (b16 .pre .1 .0, (let l = b2 .loop .inv .long in let h = b16 .pre .1 .1 in let k = b5 .copy .kept .0 in omega arith))
-
-same-length : tie.Need-same-length Inv-loop μ-loop
-same-length c =
-    let b3 = c .before .before .before in
-    let b6 = b3 .before .before .before in
-    b3 .loop .inv .long ∙ b6 .copy .kept .0
-
-same-length-2 : tie.Need-same-length-2 Inv-loop μ-loop
-same-length-2 c =
-    let b3 = c .before .before .before in
-    b3 .loop .inv .long-u
-
-same-length-3 : tie.Need-same-length-3 Inv-loop μ-loop
-same-length-3 c =
-    let b3 = c .before .before .before in
-    b3 .loop .inv .long-todo
-
-same-length-4 : tie.Need-same-length-4 Inv-loop μ-loop
-same-length-4 c =
-    let b3 = c .before .before .before in
-    b3 .loop .inv .long-v
-
-same-length-5 : tie.Need-same-length-5 Inv-loop μ-loop
-same-length-5 c =
-    let b3 = c .before .before .before in
-    b3 .loop .inv .long-rest
 
 returns : tie.Need-returns Inv-loop μ-loop
 returns c =
@@ -99,18 +51,18 @@ round-spec =
     (tie.spec
     Inv-loop
     μ-loop
-    copy-requires
+    (λ c κs. search needs)
     loop-holds
     (λ c. search needs)
     (λ c. search needs)
     eliminate-need-requires
-    add-j
-    loop-less
+    (λ c. search needs)
+    (λ c. search needs)
     loop-again
-    equal-requires
-    same-length
-    same-length-2
-    same-length-3
-    same-length-4
-    same-length-5
+    (λ c κs. search needs)
+    (λ c. search needs)
+    (λ c. search needs)
+    (λ c. search needs)
+    (λ c. search needs)
+    (λ c. search needs)
     returns)

@@ -13,11 +13,11 @@ use Rattle.tableau.proofs.eliminate.settle.Statement.{statement}
 use Rattle.tableau.proofs.eliminate.settle.Tie as tie
 
 abbrev Inv-loop : tie.InvT-loop
-Inv-loop ns tw cw w first₀ second₀ u₀ todo₀ v₀ rest₀ n₀ first second u todo v rest n =
-    ((ms ln : List ℕ) → Ready ms ln w tw cw ns → Before ms ln w (listOf w first₀) first₀ second₀ first second n) × (length u ≡ length u₀) × (length todo ≡ length todo₀) × (length v ≡ length v₀) × (length rest ≡ length rest₀)
+Inv-loop ns tw cw w first₀ second₀ copy₀ todo₀ v₀ rest₀ n₀ first second copy todo v rest n =
+    ((ms ln : List ℕ) → Ready ms ln w tw cw ns → Before ms ln w (listOf w first₀) first₀ second₀ first second n) × (length copy ≡ length copy₀) × (length todo ≡ length todo₀) × (length v ≡ length v₀) × (length rest ≡ length rest₀)
 
 abbrev μ-loop : tie.MeasureT-loop
-μ-loop ns tw cw w first₀ second₀ u₀ todo₀ v₀ rest₀ n₀ first second u todo v rest n = countBelow (w * 64) (member first)
+μ-loop ns tw cw w first₀ second₀ copy₀ todo₀ v₀ rest₀ n₀ first second copy todo v rest n = countBelow (w * 64) (member first)
 
 loop-holds : tie.Need-loop-holds Inv-loop μ-loop
 loop-holds c =

@@ -2,8 +2,8 @@
 use mathlib.Core.Path.{sym, _∙_}
 use Rattle.tableau.proofs.NeedFits.{along-no, along-yes}
 use borrow.Author.Needs.{needs}
-use Rattle.tableau.proofs.eliminate.along.Statement.{statement}
-use Rattle.tableau.proofs.eliminate.along.Tie as tie
+use Rattle.tableau.proofs.search.along.Statement.{statement}
+use Rattle.tableau.proofs.search.along.Tie as tie
 
 returns : tie.Need-returns
 returns c =
