@@ -1,5 +1,5 @@
-// The search of an EU or an AU: which types of a family have what it asks for, rank by rank. It works in one copy of the family, lent to it and used again from one
-// search to the next: ranked are the types of the family that are no longer in the copy. Assumes nothing.
+// The search of an EU or an AU: which types of a family have what it asks for, rank by rank. It works in one copy of the family, lent to it
+// and used again from one search to the next: ranked are the types of the family that are no longer in the copy. Assumes nothing.
 use image::blocks::meet;
 use image::blocks::omit;
 use image::blocks::pick;
