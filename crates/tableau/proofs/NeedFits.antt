@@ -174,6 +174,3 @@ module _ (w : ℕ) (tw cw ns : List ℕ) (U : ℕ → Bool) (x t a g : ℕ) (e :
   wants-au f =
       ap (λ b. hasNexts w tw cw ns U b t) ea
       ∙ sym (ap (λ b. cond b (anyBelow 16 (λ m. hasMode (argW x) m && linkedTo w cw (side w cw m) U t)) (hasNexts w tw cw ns U (argW x) t)) (ne-eqb (tagW x) 8 (λ q. f (e ∙ q))))
-
-pub arg-small : (x a : ℕ) → a ≡ argW x → a < 65536
-arg-small x a e = omega arith

@@ -23,7 +23,7 @@ use Rattle.wordset.specs.Words.{member, packed}
 use Rattle.members.specs.Members.{forms}
 use Rattle.truth.specs.Truths.{Tr}
 use Rattle.conditions.specs.Conditions.{Lk}
-use Rattle.tableau.specs.Families.{Round, Rounds, Survivors}
+use Rattle.tableau.specs.Families.{Ready, Round, Rounds, Survivors}
 use Rattle.truth.specs.Blocks.{listOf}
 use Rattle.truth.proofs.ListWords.{count-list, list-ascend, list-elem, list-few, list-out, list-packed}
 use Rattle.tableau.proofs.Rounding.{Fails}
@@ -162,3 +162,13 @@ module _ {ms ln : List ℕ} {w : ℕ} {start d e x y : List ℕ} {n : ℕ} (b : 
             is = after ∙ ap (λ m. packed w (λ t. elem t (Families ms ln start m)) e) (sym (add-one n));
             rest = ap (drop w) (b .is) ∙ drop-filled (packWord (λ t. elem t (Families ms ln start n))) d w w (omega arith);
           }
+
+-- before round n, for whichever table the words are of
+pub record Settles (w : ℕ) (tw cw ns first₀ second₀ copy₀ todo₀ v₀ rest₀ first second copy todo v rest : List ℕ) (n : ℕ) : Type 0 where
+  pub long : length first ≡ length first₀
+  pub long-second : length second ≡ length second₀
+  pub long-copy : length copy ≡ length copy₀
+  pub long-todo : length todo ≡ length todo₀
+  pub long-v : length v ≡ length v₀
+  pub long-rest : length rest ≡ length rest₀
+  pub is : (ms ln : List ℕ) → Ready ms ln w tw cw ns → Before ms ln w (listOf w first₀) first₀ second₀ first second n

@@ -63,10 +63,6 @@ member-at ws i b h =
     let r : (i * 64 + b) % 64 ≡ b = omega arith in
     ap₂ (λ (x y : ℕ). bit (getD ws x 0) y) q r
 
-pub member-past : (g : ℕ → ℕ) (d : List ℕ) (w j : ℕ) → w * 64 ≤ j → member (filled w g d) j ≡ member d j
-unfolding member
-member-past g d w j h = ap (λ (x : ℕ). bit x (j % 64)) (filled-past g d w (j / 64) (omega arith))
-
 -- the set that is packed
 member-filled : (g : ℕ → ℕ) (d : List ℕ) (w j : ℕ) → w ≤ length d → j < w * 64 → member (filled w g d) j ≡ bit (g (j / 64)) (j % 64)
 unfolding member
