@@ -92,11 +92,14 @@ pub follow-on : (a x : ℕ) (b : Bool) → b ≡ exAlong a x → not b ≡ false
 follow-on a x false e f h = absurd (true≢false f)
 follow-on a x true e f h = ap (λ y. imp y h) e
 
+pub ranked-member : (w : ℕ) (src copy : List ℕ) → w ≤ length src → (t : ℕ) → t < w * 64 → member (ranked w src copy) t ≡ (member src t && not (member copy t))
+ranked-member w src copy room = minus-member src copy (ranked w src copy) w room refl
+
 -- the ranked types of a block
 pub pick-ranked : (tw src copy rest₀ rest : List ℕ) (w i : ℕ) → w ≤ length src → w ≤ length rest₀ → rest ≡ packed w (λ t. (member src t && not (member copy t)) && has w tw i t) rest₀
     → (t : ℕ) → t < w * 64 → member rest t ≡ (member (ranked w src copy) t && has w tw i t)
 pick-ranked tw src copy rest₀ rest w i h k q t l =
-    held (λ t. (member src t && not (member copy t)) && has w tw i t) rest₀ rest w k q t l ∙ ap (λ b. b && has w tw i t) (sym (minus-member src copy (ranked w src copy) w h refl t l))
+    held (λ t. (member src t && not (member copy t)) && has w tw i t) rest₀ rest w k q t l ∙ ap (λ b. b && has w tw i t) (sym (ranked-member w src copy h t l))
 
 -- ---- those of d stay that have not the need x, an EX, or whose next is in U
 

@@ -26,8 +26,8 @@ use Rattle.truth.specs.Blocks.{has, listOf}
 use Rattle.truth.specs.Truths.{Tr, trueAt}
 use Rattle.tableau.specs.Families.{Finds, Follows, Good, Linked, Next, Ready, Until, Within, leaving, passes, ranked}
 use Rattle.tableau.proofs.Asks.{wants-is}
-use Rattle.tableau.proofs.NeedFits.{until-left, until-right}
-use Rattle.truth.proofs.ListWords.{list-in, list-out, minus-member}
+use Rattle.tableau.proofs.NeedFits.{ranked-member, until-left, until-right}
+use Rattle.truth.proofs.ListWords.{list-in, list-out}
 use Rattle.truth.proofs.MemberLaws.{form-tag, left-in, right-in}
 use Rattle.truth.proofs.TruthLaws.{truth-bit}
 
@@ -107,9 +107,6 @@ module _ {ms ln : List ℕ} {w : ℕ} {tw cw ns : List ℕ} (r : Ready ms ln w t
       kind : (tagAt ms i ≡ 8) ⊎ (tagAt ms i ≡ 9)
       kind = ⊎-elim (λ e. inl e) (λ f. inr (let a = k .low in let b = k .high in omega arith)) (same-or (tagAt ms i) 8)
 
-  rank-member : (copy : List ℕ) (t : ℕ) → t < w * 64 → member (ranked w src copy) t ≡ (member src t && not (member copy t))
-  rank-member copy = minus-member src copy (ranked w src copy) w room refl
-
   -- the beginning: ranked are the family's types with the right operand
   pub search-start : (copy : List ℕ) {q : ℕ} → q ≡ rightW x → ((t : ℕ) → t < w * 64 → member copy t ≡ (member src t && not (has w tw q t))) → Ranking ms ln w i src (ranked w src copy)
   unfolding Reached begun
@@ -126,7 +123,7 @@ module _ {ms ln : List ℕ} {w : ℕ} {tw cw ns : List ℕ} (r : Ready ms ln w t
 
       first : (t : ℕ) → t < w * 64 → member (ranked w src copy) t ≡ (member src t && trueAt ms ln (rightAt ms i) t)
       first t l =
-          rank-member copy t l ∙ ap (λ b. member src t && not b) (f t l) ∙ both (member src t) (has w tw q t)
+          ranked-member w src copy room t l ∙ ap (λ b. member src t && not b) (f t l) ∙ both (member src t) (has w tw q t)
           ∙ ap (λ b. member src t && b) (ap (λ j. has w tw j t) (e ∙ until-right r k) ∙ truth-bit (r .truths) (rightAt ms i) (right-in (r .table) i (k .inside) (let a = k .low in omega arith)) t l)
 
   module _ (copy : List ℕ) (s : Ranking ms ln w i src (ranked w src copy)) where
@@ -146,7 +143,7 @@ module _ {ms ln : List ℕ} {w : ℕ} {tw cw ns : List ℕ} (r : Ready ms ln w t
 
     -- of dst, none that has the member is left in the copy
     pub search-found : (dst : List ℕ) → Within w dst src → ((t : ℕ) → t < w * 64 → member dst t ≡ true → has w tw i t ≡ true → member copy t ≡ false) → Finds ms ln w tw src dst i copy
-    search-found dst sub f t l d h = search-own t l (rank-member copy t l ∙ ap₂ (λ a b. a && not b) (sub t l d) (f t l d h))
+    search-found dst sub f t l d h = search-own t l (ranked-member w src copy room t l ∙ ap₂ (λ a b. a && not b) (sub t l d) (f t l d h))
 
     -- none of the copy leaves: all are ranked that are looked for
     search-end : ((t : ℕ) → t < w * 64 → (member copy t && leaving w tw cw ns src copy x t) ≡ false) → (t : ℕ) → t < w * 64 → member (ranked w src copy) t ≡ elem t (Good ms ln (listOf w src) (form ms i))
@@ -160,7 +157,7 @@ module _ {ms ln : List ℕ} {w : ℕ} {tw cw ns : List ℕ} (r : Ready ms ln w t
         closed : (Y : List ℕ) (t : ℕ) → t ∈ listOf w src → ((x : ℕ) → x ∈ Y → x ∈ U) → T (asked ms ln i Y t) → t ∈ U
         closed Y t m sub ask =
             let j = list-out w src m in
-            list-in w (ranked w src copy) (j .0) (T-cast⁻ (rank-member copy t (j .0)) (stuck (member src t) (member copy t) (leaving w tw cw ns src copy x t) (none t (j .0)) (j .1) (T-cast⁻ (leaving-is t (j .0)) (asked-more Y U sub t ask))))
+            list-in w (ranked w src copy) (j .0) (T-cast⁻ (ranked-member w src copy room t (j .0)) (stuck (member src t) (member copy t) (leaving w tw cw ns src copy x t) (none t (j .0)) (j .1) (T-cast⁻ (leaving-is t (j .0)) (asked-more Y U sub t ask))))
 
         into : {t : ℕ} → t ∈ Reached ms ln w i src → t ∈ U
         into {t} m =
@@ -171,8 +168,8 @@ module _ {ms ln : List ℕ} {w : ℕ} {tw cw ns : List ℕ} (r : Ready ms ln w t
     module _ (copy′ : List ℕ) (f : (t : ℕ) → t < w * 64 → member copy′ t ≡ (member copy t && not (leaving w tw cw ns src copy x t))) where
       grown : (t : ℕ) → t < w * 64 → member (ranked w src copy′) t ≡ (member (ranked w src copy) t || (member src t && asked ms ln i U t))
       grown t l =
-          rank-member copy′ t l ∙ ap (λ b. member src t && not b) (f t l ∙ ap (λ b. member copy t && not b) (leaving-is t l)) ∙ more (member src t) (member copy t) (asked ms ln i U t)
-          ∙ ap (λ b. b || (member src t && asked ms ln i U t)) (sym (rank-member copy t l))
+          ranked-member w src copy′ room t l ∙ ap (λ b. member src t && not b) (f t l ∙ ap (λ b. member copy t && not b) (leaving-is t l)) ∙ more (member src t) (member copy t) (asked ms ln i U t)
+          ∙ ap (λ b. b || (member src t && asked ms ln i U t)) (sym (ranked-member w src copy room t l))
         where
           more : (s c a : Bool) → (s && not (c && not a)) ≡ ((s && not c) || (s && a))
           more true true true = refl
@@ -194,7 +191,7 @@ module _ {ms ln : List ℕ} {w : ℕ} {tw cw ns : List ℕ} (r : Ready ms ln w t
       -- there are none
       pub search-last : (dst : List ℕ) → anyBelow (w * 64) (λ t. member copy t && leaving w tw cw ns src copy x t) ≡ false → Finds ms ln w tw src dst i copy′
       search-last dst e t l d h =
-          rank-member copy′ t l ∙ ap (λ b. member src t && not b) (f t l ∙ same (member copy t) (leaving w tw cw ns src copy x t) (none t l)) ∙ sym (rank-member copy t l) ∙ search-end none t l
+          ranked-member w src copy′ room t l ∙ ap (λ b. member src t && not b) (f t l ∙ same (member copy t) (leaving w tw cw ns src copy x t) (none t l)) ∙ sym (ranked-member w src copy room t l) ∙ search-end none t l
         where
           none : (t : ℕ) → t < w * 64 → (member copy t && leaving w tw cw ns src copy x t) ≡ false
           none = any-false (λ t. member copy t && leaving w tw cw ns src copy x t) (w * 64) e
