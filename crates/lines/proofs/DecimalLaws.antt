@@ -12,7 +12,7 @@ use borrow.Author.Tests.{lt-ltb, le-ltb}
 use Rattle.io.specs.Digits.{Fewest, glyph}
 use Rattle.io.specs.Digits as Kit
 use Rattle.lines.specs.Lines.{digits, decimal}
-use Rattle.lines.specs.Put.{Put}
+use Rattle.buffer.specs.Put.{Put}
 
 digit : (n : ℕ) → glyph (n % 10) ≡ 48 + n % 10
 digit n = ap (λ b. cond b (48 + n % 10) (87 + n % 10)) (lt-ltb (n % 10) 10 (omega arith))

@@ -1,4 +1,3 @@
 pub mod DecimalLaws
 pub mod Examples
 pub mod LineLaws
-pub mod PutLaws

@@ -9,8 +9,9 @@ use Rattle.judge.specs.declared.Verdict.{Verdict}
 use Rattle.judge.specs.declared.Verdict.the-variants.{Open, Unsatisfiable}
 use Rattle.layout.specs.Ascii.{ascii}
 use Rattle.lines.specs.Lines.{decimal, headingLine, namingLine, refusedLine, spaced, verdictHeading, verdictLine}
-use Rattle.lines.specs.Put.{Put, Room}
-use Rattle.lines.proofs.PutLaws.{put-join, put-one}
+use Rattle.buffer.specs.Put.{Put}
+use Rattle.lines.specs.Room.{Room}
+use Rattle.buffer.proofs.PutLaws.{put-join, put-one}
 
 pub spaced-put : {n m : ℕ} {out out₁ : List ℕ} (x : ℕ) → n + 21 ≤ length out → Put n (decimal x) out out₁ m → m ≤ n + 20 → length out₁ ≡ length out → Put n (spaced x) out (set out₁ m 32) (m + 1) × (m + 1 ≤ n + 21)
 unfolding spaced

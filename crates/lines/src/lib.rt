@@ -4,23 +4,11 @@ ghost use Prim.Native.Nat.{_+_, _≤_};
 ghost use lib.ListN.{length};
 ghost use Rattle.judge.specs.Judged.{verdictOf};
 ghost use Rattle.lines.specs.Lines.{decimal, spaced, headingLine, namingLine, verdictHeading, verdictLine, refusedLine};
-ghost use Rattle.lines.specs.Put.{Put, Room};
+ghost use Rattle.lines.specs.Room.{Room};
+ghost use Rattle.buffer.specs.Put.{Put};
+use buffer::put;
 use judge::Verdict;
 use tableau::table::Counts;
-
-fn put(out: &mut [u8], n: usize, text: &[u8]) -> usize
-    requires { ⌜ n + length (now text) ≤ length (now out) ⌝ }
-    ensures { λ r. ⌜ Put n (now (text .entry)) (now (out .entry)) (now (out .exit)) r ⌝ }
-{
-    let mut i = 0;
-    let mut at = n;
-    while i < text.len() {
-        out[at] = text[i];
-        i += 1;
-        at += 1;
-    }
-    at
-}
 
 // A number of 64 bits has at most 20 digits.
 fn put_number(out: &mut [u8], n: usize, x: u64) -> usize

@@ -20,8 +20,8 @@ use Rattle.judge.specs.Judged.{Judged, opens, closes}
 use Rattle.judge.specs.declared.Verdict.{Verdict}
 use Rattle.judge.specs.declared.Verdict.the-variants.{Open, Unsatisfiable}
 use Rattle.lines.specs.Lines.{namingLine}
-use Rattle.lines.specs.Put.{Put}
-use Rattle.lines.proofs.PutLaws.{put-front}
+use Rattle.buffer.specs.Put.{Put}
+use Rattle.buffer.proofs.PutLaws.{put-front}
 use Rattle.pages.specs.Later.{laterOf}
 use Rattle.pages.specs.Pages.{Paged, rowAt, rows}
 use Rattle.pages.proofs.RowLaws.{rows-next, rows-none}

@@ -12,8 +12,8 @@ use Rattle.judge.specs.Judged.{Judged, goalsAt, verdictOf}
 use Rattle.judge.specs.declared.Verdict.{Verdict}
 use Rattle.judge.specs.declared.Verdict.the-variants.{Unsatisfiable}
 use Rattle.lines.specs.Lines.{headingLine, verdictHeading, verdictLine}
-use Rattle.lines.specs.Put.{Put}
-use Rattle.lines.proofs.PutLaws.{put-front}
+use Rattle.buffer.specs.Put.{Put}
+use Rattle.buffer.proofs.PutLaws.{put-front}
 use Rattle.pages.specs.Pages.{Paged, rowAt, rows}
 use Rattle.report.specs.Prints.{Prints}
 use Rattle.report.specs.Text.{linesOf, namingOf, upTo}

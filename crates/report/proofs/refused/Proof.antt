@@ -5,7 +5,7 @@ use native.Mathlib.Omega.{arith}
 use lib.ListN.{take}
 use lib.Seq.{length-take-le}
 use denote.Ref.{now}
-use Rattle.lines.proofs.PutLaws.{put-front}
+use Rattle.buffer.proofs.PutLaws.{put-front}
 use Rattle.report.specs.Text.{linesOf, upTo}
 use Rattle.report.proofs.TextLaws.{refused-count, refused-text}
 use borrow.Author.Needs.{needs}

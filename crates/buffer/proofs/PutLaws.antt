@@ -1,13 +1,13 @@
 -- Texts put into a buffer one behind the other are one text. Assumes nothing.
-use mathlib.Core.Path.{_≡_, refl, sym, ap, ap₂, _∙_}
-use mathlib.Core.List.{List, [], _∷_, _++_, append-assoc}
+use mathlib.Core.Path.{_≡_, refl, sym, ap, ap₂, _∙_, subst}
+use mathlib.Core.List.{List, [], _∷_, _++_, append-assoc, append-nil}
 use Prim.Native.Nat.{ℕ, suc, _+_, _≤_, _<_}
-use native.Mathlib.Nat.{add-assoc}
+use native.Mathlib.Nat.{add-assoc, add-zero}
 use native.Mathlib.Numerals.{add-one}
 use native.Mathlib.Omega.{arith}
-use lib.ListN.{length, getD, take, drop, set, length-append, length-set}
-use lib.Seq.{append-snoc, drop-append-add, drop-drop, length-take-le, paste, paste-suc, paste-zero, set-split, take-at, take-length}
-use Rattle.lines.specs.Put.{Put}
+use lib.ListN.{length, getD, take, drop, set, length-append, length-set, take-append-drop}
+use lib.Seq.{append-snoc, drop-append-add, drop-drop, length-paste, length-take-le, paste, paste-suc, paste-zero, set-split, take-at, take-length}
+use Rattle.buffer.specs.Put.{Put}
 
 front-length : (n : ℕ) (text out : List ℕ) → n ≤ length out → length (take n out ++ text) ≡ n + length text
 front-length n text out h = length-append (take n out) text ∙ ap (λ k. k + length text) (length-take-le n out h)
@@ -31,6 +31,14 @@ put-join {n} {m} {r} {a} {b} {out} {out₁} {out₂} h p q = record { holds = jo
 
     joined : out₂ ≡ take n out ++ (a ++ b) ++ drop (n + length (a ++ b)) out
     joined = q .holds ∙ ap₂ (λ l k. l ++ b ++ k) (put-front h p) rest ∙ ap (λ l. l ++ drop (n + length (a ++ b)) out) (append-assoc (take n out) a b)
+
+-- a buffer stays as long as it was
+pub put-length : {n r : ℕ} {text out out′ : List ℕ} → n + length text ≤ length out → Put n text out out′ r → length out′ ≡ length out
+put-length {n} {r} {text} {out} h p = ap length (p .holds ∙ ap (λ t. take n out ++ t ++ drop (n + length text) out) (sym (take-length text))) ∙ length-paste out n text (length text) h (omega arith)
+
+-- nothing
+pub put-none : (n : ℕ) (out : List ℕ) → Put n [] out out n
+put-none n out = record { holds = sym (ap₂ (λ l k. l ++ drop k out) (append-nil (take n out)) (add-zero n) ∙ take-append-drop n out); used = omega arith }
 
 -- one byte
 pub put-one : (out : List ℕ) (n b : ℕ) → n < length out → Put n (b ∷ []) out (set out n b) (n + 1)
@@ -60,6 +68,10 @@ module _ {n : ℕ} {text out₀ : List ℕ} where
         pasted = ap₂ (λ o a. set o a (getD text i 0)) (c .pasted) p ∙ paste-suc out₀ n text i 0 k l ∙ ap (paste out₀ n text) (sym (add-one i));
         long = length-set out at (getD text i 0) ∙ c .long;
       }
+
+  -- where the byte was computed
+  pub copying-byte : {out : List ℕ} {i at x : ℕ} → n + length text ≤ length out₀ → Copying n text out₀ out i at → i < length text → x ≡ getD text i 0 → Copying n text out₀ (set out at x) (i + 1) (at + 1)
+  copying-byte {out} {i} {at} h c l e = subst (λ x. Copying n text out₀ (set out at x) (i + 1) (at + 1)) (sym e) (copying-next h c l)
 
   pub copied-all : {out : List ℕ} {i at : ℕ} → Copying n text out₀ out i at → length text ≤ i → Put n text out₀ out at
   copied-all {out} {i} c h =
