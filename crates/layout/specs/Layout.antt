@@ -1,7 +1,7 @@
 -- The sheet's layout, the refusals 1 to 3, and the formulas' texts. Assumes nothing: these are definitions.
 use mathlib.Core.Path.{_≡_}
 use mathlib.Core.Bool.{Bool, true, false, not, _&&_, _||_}
-use mathlib.Core.List.{List, [], _∷_}
+use mathlib.Core.List.{List, [], _∷_, _++_}
 use Prim.Native.Nat.{ℕ, _+_, _-_, _≤_, _<_}
 use lib.ListN.{length, drop, getD}
 use lib.Dec.{ltb, leb, eqb}
@@ -19,6 +19,11 @@ parts s = split newline s
 -- the lines that a newline ends
 abbrev pub lines : List ℕ → List (List ℕ)
 lines s = ended (parts s)
+
+-- the text of some lines, each with its newline
+unfoldable pub unlines : List (List ℕ) → List ℕ
+unlines [] = []
+unlines (l ∷ ls) = l ++ (newline ∷ unlines ls)
 
 -- the lines from a position on, where a line begins
 abbrev pub linesFrom : List ℕ → ℕ → List (List ℕ)

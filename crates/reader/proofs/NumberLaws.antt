@@ -70,17 +70,17 @@ module _ (most wide : ℕ) (s : List ℕ) where
   within-read n = both ∙ ap (λ b. cond b (firstOf 9 (ltb most (length (members s)) ∷ ltb wide (length (places s)) ∷ [])) (readRefusal s)) (ne-eqb (readRefusal s) 0 n)
 
   module _ (z : readRefusal s ≡ 0) where
-    rest : refusalWithin most wide s ≡ firstOf 9 (ltb most (length (members s)) ∷ ltb wide (length (places s)) ∷ [])
-    rest = both ∙ ap (λ b. cond b (firstOf 9 (ltb most (length (members s)) ∷ ltb wide (length (places s)) ∷ [])) (readRefusal s)) (eq-eqb (readRefusal s) 0 z)
+    pub within-rest : refusalWithin most wide s ≡ firstOf 9 (ltb most (length (members s)) ∷ ltb wide (length (places s)) ∷ [])
+    within-rest = both ∙ ap (λ b. cond b (firstOf 9 (ltb most (length (members s)) ∷ ltb wide (length (places s)) ∷ [])) (readRefusal s)) (eq-eqb (readRefusal s) 0 z)
 
     pub within-nine : most < length (members s) → refusalWithin most wide s ≡ 9
-    within-nine h = rest ∙ ap (λ b. firstOf 9 (b ∷ ltb wide (length (places s)) ∷ [])) (lt-ltb most (length (members s)) h)
+    within-nine h = within-rest ∙ ap (λ b. firstOf 9 (b ∷ ltb wide (length (places s)) ∷ [])) (lt-ltb most (length (members s)) h)
 
     pub within-ten : length (members s) ≤ most → wide < length (places s) → refusalWithin most wide s ≡ 10
-    within-ten h k = rest ∙ ap₂ (λ a b. firstOf 9 (a ∷ b ∷ [])) (le-ltb most (length (members s)) h) (lt-ltb wide (length (places s)) k)
+    within-ten h k = within-rest ∙ ap₂ (λ a b. firstOf 9 (a ∷ b ∷ [])) (le-ltb most (length (members s)) h) (lt-ltb wide (length (places s)) k)
 
     pub within-none : length (members s) ≤ most → length (places s) ≤ wide → refusalWithin most wide s ≡ 0
-    within-none h k = rest ∙ ap₂ (λ a b. firstOf 9 (a ∷ b ∷ [])) (le-ltb most (length (members s)) h) (le-ltb wide (length (places s)) k)
+    within-none h k = within-rest ∙ ap₂ (λ a b. firstOf 9 (a ∷ b ∷ [])) (le-ltb most (length (members s)) h) (le-ltb wide (length (places s)) k)
 
   -- where nothing is refused, the refusals 1 to 8 do not apply
   pub within-zero : refusalWithin most wide s ≡ 0 → readRefusal s ≡ 0

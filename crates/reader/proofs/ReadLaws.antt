@@ -254,6 +254,7 @@ module _ {s tab′ : List ℕ} {h : Sheet} (x : SheetRead s tab′ h) where
                             tabled = all-tabled;
                             placed = still-placed;
                             lean-many = width-is .count;
+                            brief = subst (λ k. (p : Form) → p ∈ tabled s → length (print k p) < 2 ^ 32) (spell-line s line) brief;
                             lean-are = width-is .members;
                           };
                           refused = λ n. absurd (n zero-is);

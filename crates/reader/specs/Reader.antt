@@ -1,11 +1,13 @@
 -- What a sheet says, with its closure and lean, or the lowest of the refusals 1 to 10. Assumes nothing.
 use mathlib.Core.Path.{_≡_}
 use mathlib.Core.List.{List, [], _∷_, _++_, map}
-use Prim.Native.Nat.{ℕ, _-_, _<_}
+use Prim.Native.Nat.{ℕ, _-_, _^_, _<_}
 use lib.ListN.{length, getD, take, replicate}
 use lib.Dec.{ltb}
 use Rattle.ctl.specs.Formula.{Form, tru}
 use Rattle.ctl.specs.Positive.{positive}
+use Rattle.ctl.specs.Lists.{_∈_}
+use Rattle.ctl.specs.Print.{print}
 use Rattle.ctl.specs.Closure.{closure}
 use Rattle.ctl.specs.Lean.{withValues, lean}
 use Rattle.head.specs.Head.{spellings, kinds}
@@ -65,12 +67,13 @@ refusalOf s = refusalWithin 64 8 s
 abbrev pub blank : Refusal → Reading
 blank k = record { refusal = k; symbols = 0; words = replicate 8 0; kinds = replicate 8 0; formulas = 0; places = replicate 5 0; count = 0; members = replicate 136 0; width = 0; lean = replicate 12 0 }
 
--- what a sheet that is accepted says
+-- what a sheet that is accepted says; of its closure members and values no print is too long to be measured
 pub record Says (s : List ℕ) (r : Reading) : Type 0 where
   pub symbols : r .symbols ≡ length (spellings s)
   pub words-are : take (r .symbols) (r .words) ≡ map word (spellings s)
   pub kinds-are : take (r .symbols) (r .kinds) ≡ kinds s
   pub many : r .formulas ≡ length (formulas s)
+  pub brief : (p : Form) → p ∈ tabled s → length (print (spellOf s) p) < 2 ^ 32
   pub tabled : Tabled (tabled s) (r .members) (r .count)
   pub placed : Placed (forms s) (r .members) (r .places) (r .count)
   pub lean-many : r .width ≡ length (places s)

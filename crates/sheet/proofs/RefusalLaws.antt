@@ -112,6 +112,14 @@ module _ (s : List ℕ) (e : readRefusal s ≡ 0) where
   unfolding readRefusal
   none = first-none 1 (conditions s) (omega arith) e
 
+  pub right-length : lengthWrong s ≡ false
+  unfolding conditions
+  right-length = none (lengthWrong s) (List·Memᴰ·head refl)
+
+  pub right-bytes : byteWrong s ≡ false
+  unfolding conditions
+  right-bytes = none (byteWrong s) (List·Memᴰ·tail (List·Memᴰ·head refl))
+
   pub right-layout : layoutRight s ≡ true
   unfolding conditions
   right-layout = not-false (layoutRight s) (none (not (layoutRight s)) (List·Memᴰ·tail (List·Memᴰ·tail (List·Memᴰ·head refl))))

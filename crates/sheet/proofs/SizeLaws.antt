@@ -1,21 +1,18 @@
 -- The formulas of a sheet that was read, in the table: how many there are, how large they are, and where each one's own node is. Assumes nothing.
 use mathlib.Core.Path.{_≡_, refl, ap, _∙_}
 use mathlib.Core.Logic.{_⊎_, inl, inr}
-use mathlib.Core.Bool.{_&&_}
 use mathlib.Core.List.{List, [], _∷_, _++_, List·Memᴰ·cases-cons, List·Memᴰ·not-nil}
 use Prim.Native.Nat.{ℕ, zero, suc, _+_, _-_, _≤_, _<_}
 use native.Mathlib.Omega.{arith}
 use lib.ListN.{length, getD, take, drop, length-append, length-drop, length-map}
 use lib.Seq.{length-take-le}
-use lib.Dec.{leb}
-use borrow.Author.Tests.{leb-true}
 use Rattle.ctl.specs.Lists.{_∈_}
 use Rattle.ctl.specs.Raw.{Raw}
-use Rattle.ctl.proofs.BoolLaws.{and-both}
 use Rattle.syntax.specs.Raw.{size, nodes, At}
 use Rattle.syntax.proofs.TreeLaws.{length-nodes}
-use Rattle.layout.specs.Layout.{lines, texts, endsRight, startsRight, layoutRight}
+use Rattle.layout.specs.Layout.{lines, texts}
 use Rattle.layout.proofs.FormulaTexts.{texts-length}
+use Rattle.layout.proofs.FrontLaws.{layout-parts}
 use Rattle.sheet.specs.Refusal.{decls, read, readRefusal}
 use Rattle.sheet.specs.Sheet.{nodesFrom, endsOf, Placed, Stored}
 use Rattle.sheet.specs.Reading.{formulas}
@@ -69,12 +66,8 @@ module _ (s : List ℕ) (z : readRefusal s ≡ 0) where
   pub formulas-many : length (formulas s) ≡ length (texts s)
   formulas-many = ap length (formulas-map s z) ∙ length-map (texts s) (λ t. formulaOf (read (decls s) t))
 
-  lines-within : (3 ≤ length (lines s)) × (length (lines s) ≤ 7)
-  unfolding layoutRight
-  lines-within =
-      let a = and-both (endsRight s && leb 3 (length (lines s)) && leb (length (lines s)) 7) (startsRight (drop 2 (lines s))) (right-layout s z) in
-      let b = and-both (endsRight s && leb 3 (length (lines s))) (leb (length (lines s)) 7) (a .0) in
-      (leb-true 3 (length (lines s)) (and-both (endsRight s) (leb 3 (length (lines s))) (b .0) .1), leb-true (length (lines s)) 7 (b .1))
+  pub lines-within : (3 ≤ length (lines s)) × (length (lines s) ≤ 7)
+  lines-within = let a = layout-parts s (right-layout s z) in (a .1, a .2)
 
   -- there are 1 to 5 of them
   pub texts-some : 0 < length (texts s)
