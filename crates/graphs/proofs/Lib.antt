@@ -1,2 +1,3 @@
 pub mod Graphs
 pub mod Printed
+pub mod Cleaned

@@ -7,14 +7,17 @@ ghost use Rattle.sheet.specs.Sheet.{goalStart, goalUnder};
 ghost use Rattle.reader.specs.Reader.{refusalOf};
 
 mod books;
+mod cleans;
 mod lists;
 mod snapshots;
 mod tables;
 mod verdicts;
 
 pub use books::book;
+pub use cleans::clean;
 pub use lists::list;
 pub use outcomes::BookAnswer;
+pub use outcomes::CleanAnswer;
 pub use outcomes::ListAnswer;
 pub use outcomes::SnapshotAnswer;
 pub use outcomes::TableAnswer;

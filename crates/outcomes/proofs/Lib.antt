@@ -8,3 +8,6 @@ pub mod ListOrder
 pub mod DemandLaws
 pub mod Halves
 pub mod WithoutValues
+pub mod SameOutcomes
+pub mod CleanLaws
+pub mod CleanSheet

@@ -16,6 +16,7 @@ use Rattle.reader.specs.Reader.{refusalOf}
 use Rattle.prepare.specs.Prepared.{tableauIn}
 use Rattle.evaluator.specs.Rows.{rowOf}
 use Rattle.fitted.specs.Accepted.{bookIn, holding, listedIn, namingsIn, survivorsIn, verdictIn, wordsIn}
+use Rattle.clean.specs.Clean.{cleanText, cleanWrong}
 use Rattle.snapshot_text.specs.Lines.{lineStore}
 use Rattle.snapshot.specs.Read.{readSnapshot}
 use Rattle.snapshot_text.specs.Store.{ofStore}
@@ -27,12 +28,14 @@ use Rattle.outcomes.specs.declared.BookAnswer.{BookAnswer}
 use Rattle.outcomes.specs.declared.BookAnswer.the-variants as Book
 use Rattle.outcomes.specs.declared.ListAnswer.{ListAnswer}
 use Rattle.outcomes.specs.declared.ListAnswer.the-variants as Listing
+use Rattle.outcomes.specs.declared.CleanAnswer.{CleanAnswer}
+use Rattle.outcomes.specs.declared.CleanAnswer.the-variants as Cleaned
 use Rattle.outcomes.specs.declared.SnapshotAnswer.{SnapshotAnswer}
 use Rattle.outcomes.specs.declared.SnapshotAnswer.the-variants as Judged
 use Rattle.outcomes.specs.declared.VerdictAnswer.{VerdictAnswer}
 use Rattle.outcomes.specs.declared.VerdictAnswer.the-variants as Judging
 
--- ---- refusals: the first that applies, in the order of their numbers but for 17, which is asked before 16
+-- ---- refusals: the first that applies, in the order of their numbers but for 17, which is asked before 16, and for 18, which comes after 10
 
 -- a number, or the next where it is 0
 abbrev pub orElse : ℕ → ℕ → ℕ
@@ -127,6 +130,26 @@ verdictAnswer s (suc k) = Judging.Refused (suc k)
 unfoldable pub verdictOf : List ℕ → VerdictAnswer
 unfolding verdictIn
 verdictOf s = verdictAnswer s (refusalOf s)
+
+-- ---- Clean
+
+-- 18: a line, the text or the store
+unfoldable pub cleanRefusal : List ℕ → ℕ → ℕ
+unfolding cleanWrong
+cleanRefusal s long = orElse (refusalOf s) (cond (cleanWrong s long) 18 0)
+
+abbrev pub cleanAnswer : List ℕ → ℕ → CleanAnswer
+cleanAnswer s zero = Cleaned.Done (length (cleanText s))
+cleanAnswer s (suc k) = Cleaned.Refused (suc k)
+
+-- the store afterwards, where the refusal is k: the clean text, and the rest as it was
+abbrev pub cleanStore : List ℕ → ℕ → List ℕ → List ℕ
+cleanStore s zero d = cleanText s ++ drop (length (cleanText s)) d
+cleanStore s (suc k) d = d
+
+pub record CleanIs (s d : List ℕ) (o : CleanAnswer) (d′ : List ℕ) : Type 0 where
+  pub answer : o ≡ cleanAnswer s (cleanRefusal s (length d))
+  pub store-holds : d′ ≡ cleanStore s (cleanRefusal s (length d)) d
 
 -- ---- Snapshot
 

@@ -27,6 +27,12 @@ pub enum ListAnswer {
     Done { left: usize },
 }
 
+// A refusal by its number, or how many bytes the clean text has.
+pub enum CleanAnswer {
+    Refused(u8),
+    Done { length: usize },
+}
+
 // A refusal by its number, or how many nodes the snapshot has.
 pub enum SnapshotAnswer {
     Refused(u8),
