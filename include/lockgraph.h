@@ -18,6 +18,7 @@
  * Every sheet:   1 length (empty, over 1,024 bytes, or a line over 200)   2 byte   3 layout   4 names   5 kinds   6 grammar   7 symbol   8 braces   9 closure   10 lean
  * table, list:   11 naming (not below the number of namings)
  * table, book, list:   12 store (too short)
+ * clean:   18 (below, at lockgraph_clean)
  * snapshot:   13 snapshot   14 entry   15 twice   17 held   16 row (below, at lockgraph_snapshot; 17 is asked before 16)
  *
  * A symbol is 1 to 8 lower-case letters, and is a mark, a name, a field or a value. Where line 2 has values, each node of a drawing has exactly one of them.
@@ -61,6 +62,15 @@ uint8_t lockgraph_verdict(const uint8_t *sheet, size_t sheet_len, uint64_t out[3
 /* Where the goal's text lies in the sheet, without the newline after it.
  * out, 2 words: the place of its first byte, from 0; how many bytes it has. */
 uint8_t lockgraph_goal(const uint8_t *sheet, size_t sheet_len, uint64_t out[2]);
+
+/* The sheet written back in one way of typing, at the beginning of the store: lines 1 and 2 as they are, then each formula in canonical print behind `all ` or `goal `, each line with its newline. In a print there are
+ * no spaces, brackets stand around each `&` and `|`, modes in the order of line 1, forward before backward, `!` before symbols alone, and `>`, EF, AF, EG, AG are written out: `!EF{f}k` is `A{f}(0R!k)`.
+ * The clean sheet is accepted, every function here but lockgraph_goal tells of it what it tells of the sheet, and cleaning it gives the same bytes. 1,024 bytes are always enough.
+ * out, 1 word: how many bytes it has; the bytes behind them are as they were.
+ *
+ * Refused after 1 to 10:
+ * 18  a line of it would be over 200 bytes (without its newline), or all of it over 1,024, or over the length of the store. A store that is exactly as long is enough. */
+uint8_t lockgraph_clean(const uint8_t *sheet, size_t sheet_len, uint8_t *store, size_t store_len, uint64_t out[1]);
 
 /* At which nodes of a snapshot, given as text, the goal and the globals hold: byte i of the row becomes 1 if the goal holds at node i + 1, plus 2 if all globals do
  * (it is added where the sheet has none). 16 bytes are always enough.

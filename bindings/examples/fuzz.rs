@@ -1,4 +1,6 @@
 //! fuzz N SEED: makes N generated calls to the proved library and the second checker, and compares them.
+//! fuzz N SEED clean: cleans N generated sheets, and compares the clean sheets with the second checker's, and what is said of each with
+//! what is said of its sheet.
 //!
 //! It prints the first calls that differ, with all that is needed to repeat them; how often each operation had each outcome, and how
 //! many sheets had each spelling and each declaration of values that matters; and as the last line `N compared, M differ`. The exit status is 0 if none differs.
@@ -6,6 +8,7 @@
 #[path = "../tests/compare/mod.rs"]
 mod compare;
 
+use compare::cleans::clean_sheets;
 use compare::compare;
 use std::process::ExitCode;
 
@@ -13,10 +16,40 @@ use std::process::ExitCode;
 const TWICE: u64 = 16;
 
 fn main() -> ExitCode {
-    let Some((calls, seed)) = arguments() else {
-        eprintln!("fuzz N SEED: two numbers");
-        return ExitCode::from(2);
-    };
+    let words: Vec<String> = std::env::args().skip(1).collect();
+    let words: Vec<&str> = words.iter().map(String::as_str).collect();
+    match words[..] {
+        [calls, seed] => with_numbers(calls, seed, fuzz),
+        [sheets, seed, "clean"] => with_numbers(sheets, seed, clean),
+        _ => usage(),
+    }
+}
+
+fn usage() -> ExitCode {
+    eprintln!("fuzz N SEED: two numbers; a third word may be clean");
+    ExitCode::from(2)
+}
+
+fn with_numbers(many: &str, seed: &str, run: fn(u64, u64) -> u64) -> ExitCode {
+    match (many.parse(), seed.parse()) {
+        (Ok(many), Ok(seed)) => ExitCode::from(u8::from(run(many, seed) > 0)),
+        _ => usage(),
+    }
+}
+
+/// How many sheets differ.
+fn clean(sheets: u64, seed: u64) -> u64 {
+    let done = clean_sheets(sheets, seed);
+    for fault in &done.faults {
+        println!("{fault}");
+    }
+    println!("clean: {} written, {} refused 18", done.cleaned, done.refused);
+    println!("{sheets} sheets cleaned, {} differ", done.differ);
+    done.differ
+}
+
+/// How many calls differ.
+fn fuzz(calls: u64, seed: u64) -> u64 {
     let done = compare(calls, seed, TWICE);
     for fault in &done.faults {
         println!("{fault}");
@@ -29,11 +62,5 @@ fn main() -> ExitCode {
         println!("{shape}: no sheet");
     }
     println!("{} compared, {} differ", done.seen.calls(), done.differ);
-    ExitCode::from(u8::from(done.differ > 0))
-}
-
-fn arguments() -> Option<(u64, u64)> {
-    let mut numbers = std::env::args().skip(1).map(|text| text.parse().ok());
-    let pair = (numbers.next()??, numbers.next()??);
-    numbers.next().is_none().then_some(pair)
+    done.differ
 }

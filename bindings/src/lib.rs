@@ -34,6 +34,9 @@ pub const BOOK_WORDS: usize = 65_536;
 /// So many numbers are always enough for [`list`].
 pub const LIST_NUMBERS: usize = 256;
 
+/// So many bytes are always enough for [`clean`].
+pub const CLEAN_BYTES: usize = 1024;
+
 /// So many bytes are always enough for [`snapshot`].
 pub const ROW_BYTES: usize = 16;
 
@@ -235,6 +238,34 @@ pub fn goal_text(sheet: &[u8]) -> Result<&str, Refusal> {
     Ok(std::str::from_utf8(text).expect("a sheet that is not refused has printable bytes"))
 }
 
+/// The sheet written back in one way of typing: lines 1 and 2 as they are, then each formula in canonical print behind `all ` or `goal `.
+///
+/// The clean sheet is the beginning of the store; [`CLEAN_BYTES`] bytes are always enough. The bytes behind it are as they were. It is
+/// accepted, has the same answer to every question but that for the goal's text, and cleaning it gives the same bytes: that is proved.
+/// `!` stands before symbols alone in it, and `EF`, `AF`, `EG`, `AG` and `>` are written out, so a formula may become longer, and a
+/// sheet that is accepted may be refused here.
+///
+/// ```
+/// use lockgraph::{clean, Refusal, CLEAN_BYTES};
+///
+/// let sheet = b"lock waits\nmark field\nall EX { Waits , waits } lock > lock\ngoal !EF{waits}lock\n";
+/// let mut store = [7; CLEAN_BYTES];
+/// let text = clean(sheet, &mut store)?;
+/// let written = "lock waits\nmark field\nall (AX{waits,Waits}!lock|lock)\ngoal A{waits}(0R!lock)\n";
+/// assert_eq!(text, written);
+/// let length = written.len();
+/// assert_eq!(store[length], 7);
+///
+/// assert_eq!(clean(sheet, &mut store[..length])?, written);
+/// assert_eq!(clean(sheet, &mut store[..length - 1]), Err(Refusal::Clean));
+/// # Ok::<(), Refusal>(())
+/// ```
+pub fn clean<'a>(sheet: &[u8], store: &'a mut [u8]) -> Result<&'a str, Refusal> {
+    let [length] = told(|out| raw::clean(sheet, store, out))?;
+    let text = &store[..length as usize];
+    Ok(std::str::from_utf8(text).expect("a clean sheet has printable bytes"))
+}
+
 /// At which nodes of a snapshot the goal and the globals hold.
 ///
 /// Byte `i` of the row becomes 1 if the goal holds at node `i + 1`, plus 2 if all globals do. [`ROW_BYTES`] bytes are always enough.
@@ -270,6 +301,6 @@ fn told<const N: usize>(call: impl FnOnce(&mut [u64; N]) -> u8) -> Result<[u64; 
     let mut out = [0; N];
     match call(&mut out) {
         0 => Ok(out),
-        number => Err(Refusal::of_number(number).expect("the library's refusals are 1 to 17")),
+        number => Err(Refusal::of_number(number).expect("the library's refusals are 1 to 18")),
     }
 }

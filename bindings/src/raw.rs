@@ -36,6 +36,13 @@ extern "C" {
         out: *mut u64,
     ) -> u8;
     fn lockgraph_verdict(sheet: *const u8, sheet_len: usize, out: *mut u64) -> u8;
+    fn lockgraph_clean(
+        sheet: *const u8,
+        sheet_len: usize,
+        store: *mut u8,
+        store_len: usize,
+        out: *mut u64,
+    ) -> u8;
     fn lockgraph_goal(sheet: *const u8, sheet_len: usize, out: *mut u64) -> u8;
     fn lockgraph_snapshot(
         sheet: *const u8,
@@ -104,6 +111,20 @@ pub fn list(sheet: &[u8], naming: u64, store: &mut [u16], out: &mut [u64; 1]) ->
 pub fn verdict(sheet: &[u8], out: &mut [u64; 3]) -> u8 {
     // SAFETY: pointer and length are those of a slice, and `out` has 3 words.
     unsafe { lockgraph_verdict(sheet.as_ptr(), sheet.len(), out.as_mut_ptr()) }
+}
+
+/// Told: how many bytes the clean text has.
+pub fn clean(sheet: &[u8], store: &mut [u8], out: &mut [u64; 1]) -> u8 {
+    // SAFETY: pointers and lengths are those of slices, the two that are written are borrowed alone, and `out` has 1 word.
+    unsafe {
+        lockgraph_clean(
+            sheet.as_ptr(),
+            sheet.len(),
+            store.as_mut_ptr(),
+            store.len(),
+            out.as_mut_ptr(),
+        )
+    }
 }
 
 /// Told: the place of the goal's first byte, and how many bytes it has.

@@ -3,7 +3,8 @@
 use std::error::Error;
 use std::fmt;
 
-/// Why a call was refused: the first number that applies. They are asked in the order of their numbers, but for 17, which comes before 16.
+/// Why a call was refused: the first number that applies. They are asked in the order of their numbers, but for 17, which comes before 16,
+/// and 18, which comes after 10.
 ///
 /// After a refusal every store is as it was before the call.
 ///
@@ -55,6 +56,8 @@ pub enum Refusal {
     Row = 16,
     /// A node of the snapshot has none of the values, or several. Asked before 16.
     Held = 17,
+    /// The sheet written clean has a line over 200 bytes, is over 1,024 bytes, or has no room in the store. Asked after 10.
+    Clean = 18,
 }
 
 impl Refusal {
@@ -64,9 +67,9 @@ impl Refusal {
     /// use lockgraph::Refusal;
     ///
     /// let numbers: Vec<u8> = Refusal::ALL.iter().map(|refusal| refusal.number()).collect();
-    /// assert_eq!(numbers, (1..=17).collect::<Vec<u8>>());
+    /// assert_eq!(numbers, (1..=18).collect::<Vec<u8>>());
     /// ```
-    pub const ALL: [Refusal; 17] = [
+    pub const ALL: [Refusal; 18] = [
         Refusal::Length,
         Refusal::Byte,
         Refusal::Layout,
@@ -84,9 +87,10 @@ impl Refusal {
         Refusal::Twice,
         Refusal::Row,
         Refusal::Held,
+        Refusal::Clean,
     ];
 
-    /// The number in the documents' table, 1 to 17.
+    /// The number in the documents' table, 1 to 18.
     ///
     /// ```
     /// assert_eq!(lockgraph::Refusal::Store.number(), 12);
@@ -102,7 +106,7 @@ impl Refusal {
     ///
     /// assert_eq!(Refusal::of_number(9), Some(Refusal::Closure));
     /// assert_eq!(Refusal::of_number(0), None);
-    /// assert_eq!(Refusal::of_number(18), None);
+    /// assert_eq!(Refusal::of_number(19), None);
     /// ```
     pub fn of_number(number: u8) -> Option<Refusal> {
         let place = usize::from(number).checked_sub(1)?;
@@ -134,6 +138,9 @@ impl Refusal {
             Refusal::Twice => "a name is on two nodes of the snapshot",
             Refusal::Row => "the row is too short",
             Refusal::Held => "a node of the snapshot has none of the values, or several",
+            Refusal::Clean => {
+                "the clean sheet has a line over 200 bytes, is over 1,024, or has no room in the store"
+            }
         }
     }
 }

@@ -4,9 +4,11 @@
 
 mod compare;
 
+use compare::cleans::clean_sheets;
 use compare::compare;
 
 const CALLS: u64 = 20_000;
+const SHEETS: u64 = 2_000;
 const SEED: u64 = 1;
 
 #[test]
@@ -22,4 +24,16 @@ fn same_outcomes_and_stores() {
         none,
         "shapes that no sheet had"
     );
+}
+
+#[test]
+fn clean_sheets_say_the_same() {
+    let done = clean_sheets(SHEETS, SEED);
+    let faults = done.faults.join("\n");
+    assert_eq!(
+        done.differ, 0,
+        "sheets differ, the first of them:\n{faults}"
+    );
+    assert_eq!(done.cleaned + done.refused, SHEETS);
+    assert!(done.refused > 0, "no sheet whose clean text is too long");
 }

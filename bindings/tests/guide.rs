@@ -2,8 +2,8 @@
 //!
 //! Read are the guide's tables, its list of typing errors, and its comments, which nobody sees in the rendered text: `<!-- ANSWER -->` above the block of a sheet or a
 //! snapshot, and `<!-- ANSWER: LINE / LINE / .. -->`, or a sheet's file, where the prose has a sheet without a block. An answer is `open 0 8`, `open`, `unsatisfiable`,
-//! `refused 6`, `accepted` (not refused), `list 0 2 4 3` (the types under naming 0), `true k EX{f}k` (the places), or of a snapshot `row 3 2`. Each block with a sheet
-//! has to have one.
+//! `refused 6`, `accepted` (not refused), `list 0 2 4 3` (the types under naming 0), `true k EX{f}k` (the places), `clean LINE / LINE / ..` (the clean sheet), or of a
+//! snapshot `row 3 2`. Each block with a sheet has to have one.
 
 #[path = "compare/rules.rs"]
 mod rules;
@@ -31,11 +31,12 @@ const MORE_WORDS: &str = "capture thumb lock busy waits held\nmark mark mark mar
 /// In the list of typing errors, what was meant begins at this column.
 const MEANT: usize = 37;
 
-/// What is asked of a sheet: its verdict, its list under naming 0, the places that are true in a type of a list, or in a number that has some
+/// What is asked of a sheet: its verdict, its clean text, its list under naming 0, the places that are true in a type of a list, or in a number that has some
 /// of them, or the row of a snapshot, with the length of the store.
 #[derive(Clone)]
 enum Asked {
     Verdict,
+    Clean,
     List,
     Type(usize),
     Places(usize),
@@ -68,7 +69,7 @@ fn sheets_are_answered_as_the_guide_says() {
             "line {line}: {proved}, not {answer}: {sheet}"
         );
     }
-    for number in (1..=10).chain(13..=17) {
+    for number in (1..=10).chain(13..=18) {
         let refused = format!("refused {number}");
         assert!(
             claims.iter().any(|claim| claim.answer == refused),
@@ -104,6 +105,7 @@ fn proved(claim: &Claim) -> String {
             lockgraph::snapshot(sheet, text.as_bytes(), &mut vec![0; *length]).map(row)
         }
         Asked::List => lockgraph::list(sheet, 0, &mut [0; lockgraph::LIST_NUMBERS]).map(list),
+        Asked::Clean => lockgraph::clean(sheet, &mut [0; lockgraph::CLEAN_BYTES]).map(clean),
         // The library prints no places.
         Asked::Type(_) | Asked::Places(_) => return second(claim),
         Asked::Verdict => lockgraph::verdict(sheet).map(|verdict| match verdict {
@@ -129,6 +131,11 @@ fn second(claim: &Claim) -> String {
             let mut types = [0; lockgraph::LIST_NUMBERS];
             second_checker::list(rules(), sheet, 0, &mut types).map(|left| list(&types[..left]))
         }
+        Asked::Clean => {
+            let mut bytes = [0; lockgraph::CLEAN_BYTES];
+            second_checker::clean(rules(), sheet, &mut bytes)
+                .map(|long| clean(std::str::from_utf8(&bytes[..long]).expect("a text")))
+        }
         Asked::Type(type_) | Asked::Places(type_) => places(sheet, *type_),
         Asked::Verdict => second_checker::verdict(rules(), sheet, 1).map(|verdict| match verdict {
             second_checker::Verdict::Open { naming, type_ } => format!("open {naming} {type_}"),
@@ -145,6 +152,10 @@ fn places(sheet: &[u8], type_: usize) -> Result<String, u8> {
     let here = places.filter(|(place, _)| in_type(type_, *place));
     let prints = here.map(|(_, formula)| print(formula, &accepted.sheet.symbols));
     Ok(words("true", prints))
+}
+
+fn clean(text: &str) -> String {
+    format!("clean {}", text.trim_end_matches('\n').replace('\n', " / "))
 }
 
 fn row(bytes: &[u8]) -> String {
@@ -200,9 +211,11 @@ fn claims(guide: &str) -> Vec<Claim> {
     claims
 }
 
-/// Of a sheet alone: its list or its places where the answer is such, else its verdict.
+/// Of a sheet alone: its clean text, its list or its places where the answer is such, else its verdict.
 fn verdict(at: usize, sheet: String, answer: &str) -> Claim {
     let asked = match answer.split(' ').next() {
+        Some("clean") => Asked::Clean,
+        Some("refused") if answer == "refused 18" => Asked::Clean,
         Some("list") => Asked::List,
         Some("true") => Asked::Places(usize::MAX),
         _ => Asked::Verdict,

@@ -89,7 +89,11 @@ impl Calls<'_> {
             (1, _) => self.goal_text(),
             (_, 0..=4) => self.table(naming, around(c, 4), around(c, 4)),
             (_, 5) => self.book(around(c, (self.book[0] * self.book[1]) as usize)),
-            (_, 6..=10) => {
+            (_, 6) => {
+                let length = self.second.clean_length();
+                self.clean(around(c, length))
+            }
+            (_, 7..=10) => {
                 let left = self.second.left(naming);
                 self.list(naming, around(c, left))
             }
@@ -182,6 +186,33 @@ impl Calls<'_> {
                 })
             })
             .map(|fault| format!("goal: {fault}"))
+    }
+
+    /// The sheet that was written is cleaned again, too: it gives the same bytes, and has the same verdict.
+    fn clean(&mut self, length: usize) -> Option<String> {
+        let expected = self.second.clean(length);
+        self.seen.count("clean", &expected);
+        let got = lockgraph::clean(self.sheet, self.stores.clean.lend(length));
+        let promised = expected.clone().unwrap_or_default();
+        unlike(&got, &expected, |got, text| got.as_bytes() == text)
+            .or_else(|| self.stores.clean.fault(&promised))
+            .or_else(|| {
+                let store = self.stores.clean.lend(length);
+                told::fault(&mut self.stores.out, &expected, told::count, |out| {
+                    raw::clean(self.sheet, store, out)
+                })
+            })
+            .or_else(|| expected.is_ok().then(|| self.again(&promised)).flatten())
+            .map(|fault| format!("clean {length}: {fault}"))
+    }
+
+    fn again(&mut self, text: &[u8]) -> Option<String> {
+        let cleaned = lockgraph::clean(text, self.stores.clean.lend(text.len()));
+        if cleaned.map(str::as_bytes) != Ok(text) {
+            return Some(String::from("cleaned again it has other bytes"));
+        }
+        (lockgraph::verdict(text) != lockgraph::verdict(self.sheet))
+            .then(|| String::from("the clean sheet has another verdict"))
     }
 
     fn snapshot(&mut self, text: &[u8], length: usize) -> Option<String> {

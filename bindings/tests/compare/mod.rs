@@ -5,6 +5,7 @@
 //! it, with `out` for a further store. The calls come in blocks, and a block is the same for the same seed and number.
 
 mod calls;
+pub mod cleans;
 mod names;
 mod rules;
 mod second;

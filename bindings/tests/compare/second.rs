@@ -8,7 +8,7 @@ use super::rules;
 use second_checker::closure::Accepted;
 use second_checker::tableau::{Striking, Tableau};
 use second_checker::typeset::TypeSet;
-use second_checker::{snapshot, stores, Refusal, Store, Verdict};
+use second_checker::{clean, snapshot, stores, Refusal, Store, Verdict};
 use std::collections::HashMap;
 use std::fmt::Debug;
 
@@ -78,6 +78,22 @@ impl<'a> Second<'a> {
         self.confirmed(answer, |sheet| second_checker::goal_text(rules(), sheet, 1))
     }
 
+    pub fn clean(&self, length: usize) -> Result<Vec<u8>, Refusal> {
+        let answer = self.accepted().and_then(|accepted| {
+            let text = clean::text(accepted);
+            if clean::fits(&text) && text.len() <= length {
+                Ok(text)
+            } else {
+                Err(18)
+            }
+        });
+        self.confirmed(answer, |sheet| {
+            let mut store = stores::bytes(length).elements;
+            let count = second_checker::clean(rules(), sheet, &mut store)?;
+            Ok(store[..count].to_vec())
+        })
+    }
+
     pub fn snapshot(&self, text: &[u8], length: usize) -> Result<Vec<u8>, Refusal> {
         let answer = self.remembered_snapshot(text, length);
         self.confirmed(answer, |sheet| {
@@ -97,6 +113,12 @@ impl<'a> Second<'a> {
     pub fn left(&mut self, naming: u64) -> usize {
         self.striking(naming)
             .map_or(0, |(striking, _)| striking.left)
+    }
+
+    /// How many bytes the clean sheet has; 0 where the sheet is refused.
+    pub fn clean_length(&self) -> usize {
+        self.accepted()
+            .map_or(0, |accepted| clean::text(accepted).len())
     }
 
     /// How many nodes a snapshot has; 0 where it is refused.

@@ -134,12 +134,13 @@ impl fmt::Display for Seen {
 
 /// Each operation is refused a sheet for the same ten reasons, and has further ones of its own.
 fn possible() -> impl Iterator<Item = (&'static str, u8)> {
-    const OWN: [(&str, &[u8]); 6] = [
+    const OWN: [(&str, &[u8]); 7] = [
         ("table", &[11, 12]),
         ("book", &[12]),
         ("list", &[11, 12]),
         ("verdict", &[]),
         ("goal", &[]),
+        ("clean", &[18]),
         ("snapshot", &[13, 14, 15, 16, 17]),
     ];
     OWN.into_iter().flat_map(|(operation, own)| {

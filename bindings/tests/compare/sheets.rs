@@ -54,6 +54,7 @@ pub fn sound(c: &mut Chance) -> Sheet {
         1..=256 => pressed(c),
         257..=576 => in_words(c),
         577..=640 => respelt(c),
+        641..=699 => long_when_clean(c),
         700..=860 => with_values(c),
         861..=1000 => with_names(c),
         _ => {
@@ -74,6 +75,17 @@ fn wish(c: &mut Chance) -> Wish {
 fn in_words(c: &mut Chance) -> Sheet {
     let wish = wish(c);
     Sheet::of(&requested::sound(c, wish))
+}
+
+/// One that is longer when written clean: lines around 200 bytes, or all of it around 1,024.
+fn long_when_clean(c: &mut Chance) -> Sheet {
+    let level = rules().level;
+    loop {
+        let sheet = Sheet::of(&requested::long_when_clean(c, Wish { level, focus: 6 }));
+        if accept(rules(), &sheet.bytes).is_ok() && sheet.has_at_most(NAMINGS) {
+            return sheet;
+        }
+    }
 }
 
 /// One with values, mostly.

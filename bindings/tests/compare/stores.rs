@@ -9,7 +9,7 @@ pub trait Element: Copy + Eq {
 }
 
 impl Element for u8 {
-    /// A row has 0 to 3.
+    /// A row has 0 to 3, a clean sheet bytes below 128.
     fn pattern(place: usize) -> u8 {
         0x80 | (place as u8).wrapping_mul(37)
     }
@@ -67,5 +67,6 @@ pub struct Stores {
     pub book: Lent<u64>,
     pub list: Lent<u16>,
     pub row: Lent<u8>,
+    pub clean: Lent<u8>,
     pub out: Lent<u64>,
 }

@@ -1,6 +1,7 @@
 // Reads a corpus of cases on standard input, of any length, a line at a time, and writes the outcome of each line, as the second checker's `corpus` does
 // (second_checker/README.md has the format), but of `facts`, which it passes over. A line that is not understood ends the run, with a word on standard error.
 mod book;
+mod clean;
 mod line;
 mod list;
 mod run;

@@ -1,5 +1,6 @@
 // The lines of a corpus: which operation each asks for, and its outcome.
 use crate::book::book;
+use crate::clean::clean;
 use crate::list::list;
 use crate::snapshot::snapshot;
 use crate::table::table;
@@ -60,6 +61,15 @@ fn book_line(line: &[u8], sheet: &[u8]) -> bool {
     false
 }
 
+fn clean_line(line: &[u8], sheet: &[u8]) -> bool {
+    let length = number_at(line, 6);
+    if length.right {
+        clean(line, sheet, length.value);
+        return true;
+    }
+    false
+}
+
 fn list_line(line: &[u8], sheet: &[u8]) -> bool {
     let naming = number_at(line, 5);
     let length = number_at(line, naming.next);
@@ -95,6 +105,9 @@ fn answer(line: &[u8], sheet: &[u8]) -> bool {
     }
     if layout::begins_with(line, b"book ") {
         return book_line(line, sheet);
+    }
+    if layout::begins_with(line, b"clean ") {
+        return clean_line(line, sheet);
     }
     if layout::begins_with(line, b"list ") {
         return list_line(line, sheet);

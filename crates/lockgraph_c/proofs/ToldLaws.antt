@@ -20,13 +20,15 @@ use Rattle.outcomes.specs.declared.BookAnswer.{BookAnswer}
 use Rattle.outcomes.specs.declared.BookAnswer.the-variants as Book
 use Rattle.outcomes.specs.declared.ListAnswer.{ListAnswer}
 use Rattle.outcomes.specs.declared.ListAnswer.the-variants as Listing
+use Rattle.outcomes.specs.declared.CleanAnswer.{CleanAnswer}
+use Rattle.outcomes.specs.declared.CleanAnswer.the-variants as Cleaned
 use Rattle.outcomes.specs.declared.SnapshotAnswer.{SnapshotAnswer}
 use Rattle.outcomes.specs.declared.SnapshotAnswer.the-variants as Judged
 use Rattle.outcomes.specs.declared.VerdictAnswer.{VerdictAnswer}
 use Rattle.outcomes.specs.declared.VerdictAnswer.the-variants as Judging
 use Rattle.outcomes.specs.Demands.{SnapshotMeans, TableDemand2, TableDemand3, VerdictDemand2, VerdictDemand3}
-use Rattle.outcomes.specs.Outcomes.{BookIs, ListIs, SnapshotIs, TableIs, partOf, verdictOf}
-use Rattle.lockgraph_c.specs.Told.{BookTold, GoalTold, ListTold, SnapshotTold, TableTold, VerdictTold, bookNumber, bookNumbers, goalNumbers, listNumber, listNumbers, snapshotNumber, snapshotNumbers, tableNumber, tableNumbers, verdictNumber, verdictNumbers, writtenLast}
+use Rattle.outcomes.specs.Outcomes.{BookIs, CleanIs, ListIs, SnapshotIs, TableIs, partOf, verdictOf}
+use Rattle.lockgraph_c.specs.Told.{BookTold, CleanTold, GoalTold, ListTold, SnapshotTold, TableTold, VerdictTold, bookNumber, bookNumbers, cleanNumber, cleanNumbers, goalNumbers, listNumber, listNumbers, snapshotNumber, snapshotNumbers, tableNumber, tableNumbers, verdictNumber, verdictNumbers, writtenLast}
 
 -- ---- Table
 
@@ -109,6 +111,15 @@ module _ {s t row out row′ : List ℕ} {o : SnapshotAnswer} (is : SnapshotIs s
 
   pub snapshot-done : {n : ℕ} → o ≡ Judged.Done n → SnapshotTold s t row out 0 row′ (n ∷ [])
   snapshot-done e = record { answer = o; is = is; means = means; number = sym (ap snapshotNumber e); numbers = sym (ap (λ a. snapshotNumbers a out) e) }
+
+-- ---- Clean
+
+module _ {s d out d′ : List ℕ} {o : CleanAnswer} (is : CleanIs s d o d′) where
+  pub clean-refused : {k : ℕ} → o ≡ Cleaned.Refused k → CleanTold s d out k d′ out
+  clean-refused e = record { answer = o; is = is; number = sym (ap cleanNumber e); numbers = sym (ap (λ a. cleanNumbers a out) e) }
+
+  pub clean-done : {n : ℕ} → o ≡ Cleaned.Done n → CleanTold s d out 0 d′ (n ∷ [])
+  clean-done e = record { answer = o; is = is; number = sym (ap cleanNumber e); numbers = sym (ap (λ a. cleanNumbers a out) e) }
 
 -- ---- the goal's text
 

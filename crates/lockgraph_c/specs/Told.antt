@@ -13,12 +13,14 @@ use Rattle.outcomes.specs.declared.BookAnswer.{BookAnswer}
 use Rattle.outcomes.specs.declared.BookAnswer.the-variants as Book
 use Rattle.outcomes.specs.declared.ListAnswer.{ListAnswer}
 use Rattle.outcomes.specs.declared.ListAnswer.the-variants as Listing
+use Rattle.outcomes.specs.declared.CleanAnswer.{CleanAnswer}
+use Rattle.outcomes.specs.declared.CleanAnswer.the-variants as Cleaned
 use Rattle.outcomes.specs.declared.SnapshotAnswer.{SnapshotAnswer}
 use Rattle.outcomes.specs.declared.SnapshotAnswer.the-variants as Judged
 use Rattle.outcomes.specs.declared.VerdictAnswer.{VerdictAnswer}
 use Rattle.outcomes.specs.declared.VerdictAnswer.the-variants as Judging
 use Rattle.outcomes.specs.Demands.{SnapshotMeans, TableDemand2, TableDemand3, VerdictDemand2, VerdictDemand3}
-use Rattle.outcomes.specs.Outcomes.{BookIs, ListIs, SnapshotIs, TableIs, verdictOf}
+use Rattle.outcomes.specs.Outcomes.{BookIs, CleanIs, ListIs, SnapshotIs, TableIs, verdictOf}
 
 -- ---- Table
 
@@ -111,6 +113,22 @@ pub record SnapshotTold (s t row out : List ℕ) (k : ℕ) (row′ out′ : List
   pub means : SnapshotMeans s t answer row′
   pub number : k ≡ snapshotNumber answer
   pub numbers : out′ ≡ snapshotNumbers answer out
+
+-- ---- Clean
+
+abbrev pub cleanNumber : CleanAnswer → ℕ
+cleanNumber (Cleaned.Refused k) = k
+cleanNumber (Cleaned.Done long) = 0
+
+abbrev pub cleanNumbers : CleanAnswer → List ℕ → List ℕ
+cleanNumbers (Cleaned.Refused k) out = out
+cleanNumbers (Cleaned.Done long) out = long ∷ []
+
+pub record CleanTold (s d out : List ℕ) (k : ℕ) (d′ out′ : List ℕ) : Type 0 where
+  pub answer : CleanAnswer
+  pub is : CleanIs s d answer d′
+  pub number : k ≡ cleanNumber answer
+  pub numbers : out′ ≡ cleanNumbers answer out
 
 -- ---- the goal's text
 

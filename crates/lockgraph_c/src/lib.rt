@@ -1,8 +1,9 @@
 // The public library for C and Rust: each operation with its refusal's number, or 0, as the result, and its numbers through a lent array, which keeps its contents with a
 // refusal. Assumes nothing.
 ghost use mathlib.Core.Path.{_≡_};
-ghost use Rattle.lockgraph_c.specs.Told.{BookTold, GoalTold, ListTold, SnapshotTold, TableTold, VerdictTold, writtenLast};
+ghost use Rattle.lockgraph_c.specs.Told.{BookTold, CleanTold, GoalTold, ListTold, SnapshotTold, TableTold, VerdictTold, writtenLast};
 use lockgraph::BookAnswer;
+use lockgraph::CleanAnswer;
 use lockgraph::ListAnswer;
 use lockgraph::SnapshotAnswer;
 use lockgraph::TableAnswer;
@@ -106,6 +107,20 @@ pub extern "C" fn lockgraph_snapshot(
         SnapshotAnswer::Refused(k) => k,
         SnapshotAnswer::Done { nodes } => {
             *out = [nodes as u64];
+            0
+        }
+    }
+}
+
+// The sheet written clean into a store. Through `out`: how many bytes it has.
+#[no_mangle]
+pub extern "C" fn lockgraph_clean(sheet: &[u8], store: &mut [u8], out: &mut [u64; 1]) -> u8
+    ensures { λ k. ⌜ CleanTold (now (sheet .entry)) (now (store .entry)) (now (out .entry)) k (now (store .exit)) (now (out .exit)) ⌝ }
+{
+    match lockgraph::clean(sheet, store) {
+        CleanAnswer::Refused(k) => k,
+        CleanAnswer::Done { length } => {
+            *out = [length as u64];
             0
         }
     }

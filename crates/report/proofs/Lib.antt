@@ -2,3 +2,4 @@ pub mod HandedLaws
 pub mod ReportLaws
 pub mod TextLaws
 pub mod WriteLaws
+pub mod CleanedLaws

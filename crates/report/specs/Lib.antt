@@ -1,3 +1,4 @@
 pub mod Handed
 pub mod Prints
 pub mod Text
+pub mod Cleaned

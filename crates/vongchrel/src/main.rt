@@ -1,4 +1,12 @@
-// Reads a sheet on standard input, to its end, and prints a line for each of its namings and the verdict, or its refusal.
+// Reads a sheet on standard input, to its end, and prints a line for each of its namings and the verdict, or its refusal. With the word `clean` as its first argument it prints the
+// sheet written clean, or its refusal. Any other argument makes no difference.
+
+// Whether the first argument is the word `clean`.
+fn cleaning() -> bool {
+    let mut word = [0u8; 8];
+    let n = os::arg(1, &mut word);
+    layout::same_text(&word[..n], b"clean")
+}
 
 // Reads what is left of the input and drops it. Its end is not promised, so the loop counts its turns down, from a number that no run uses up.
 fn drain() {
@@ -18,6 +26,10 @@ fn main() {
     let n = io::read_full(0, &mut sheet);
     if n == 1025 {
         drain();
+    }
+    if cleaning() {
+        report::report_clean(&sheet[..n]);
+        return;
     }
     report::report(&sheet[..n], b"\n");
 }

@@ -1,0 +1,29 @@
+-- `lockgraph_clean` meets its contract. Assumes nothing.
+use Rattle.lockgraph_c.proofs.ToldLaws.{clean-done, clean-refused}
+use borrow.Author.Needs.{needs}
+use Rattle.lockgraph_c.proofs.lockgraph_clean.Statement.{statement}
+use Rattle.lockgraph_c.proofs.lockgraph_clean.Tie as tie
+
+returns : tie.Need-returns
+returns c =
+    let b1 = c .before in
+    let b5 = b1 .before .before .before .before in
+    clean-refused (b5 .clean .ensures) (b1 .k .given .1)
+
+returns-2 : tie.Need-returns-2
+returns-2 c =
+    let b2 = c .before .before in
+    let b6 = b2 .before .before .before .before in
+    clean-done (b6 .clean .ensures) (b2 .length .given .1)
+
+pub lockgraph-clean-spec : {M : Type 1} → statement M
+lockgraph-clean-spec =
+    tie.close
+    (tie.spec
+    (λ c κs. search needs)
+    (λ c. search needs)
+    (λ c. search needs)
+    (λ c. search needs)
+    returns
+    (λ c. search needs)
+    returns-2)
