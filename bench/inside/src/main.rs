@@ -1,6 +1,7 @@
-//! inside SHEET...: for each sheet, the shortest time of a verdict and of naming 0's table and list, in nanoseconds, in one process, so that
-//! the start of a process does not hide the work. A line for each sheet: `PATH verdict PROVED PLAIN table PROVED PLAIN list PROVED PLAIN`.
-//! They are asked first for the verdict and for the tables and lists of the first namings, and must agree.
+//! inside SHEET...: for each sheet, the shortest time of a verdict, of naming 0's table and list, and of the clean text, in nanoseconds, in one
+//! process, so that the start of a process does not hide the work. A line for each sheet:
+//! `PATH verdict PROVED PLAIN table PROVED PLAIN list PROVED PLAIN clean PROVED PLAIN`.
+//! They are asked first for the verdict, for the tables and lists of the first namings and for the clean text, and must agree.
 
 mod proved;
 
@@ -27,7 +28,11 @@ fn main() {
             &|| consume(proved::list(black_box(&sheet), 0)),
             &|| consume(plain::list(black_box(&sheet), 0)),
         ]);
-        println!("{path} verdict {a:.0} {b:.0} table {c:.0} {d:.0} list {e:.0} {f:.0}");
+        let [g, h] = race([
+            &|| consume(proved::clean(black_box(&sheet))),
+            &|| consume(plain::clean(black_box(&sheet))),
+        ]);
+        println!("{path} verdict {a:.0} {b:.0} table {c:.0} {d:.0} list {e:.0} {f:.0} clean {g:.0} {h:.0}");
     }
 }
 
@@ -36,7 +41,7 @@ fn consume<T>(answer: T) {
     black_box(answer);
 }
 
-/// The answers of both are the same, for the verdict and for the table and the list of the first 64 namings.
+/// The answers of both are the same, for the verdict, for the clean text, and for the table and the list of the first 64 namings.
 fn agree(sheet: &[u8]) {
     let verdict = plain::verdict(sheet).map(|verdict| match verdict {
         plain::Verdict::Open { naming, least } => [1, naming, least as u64],
@@ -46,6 +51,8 @@ fn agree(sheet: &[u8]) {
         proved::verdict(sheet),
         verdict.map_err(|refusal| refusal as u8)
     );
+    let clean = plain::clean(sheet).map_err(|refusal| refusal as u8);
+    assert_eq!(proved::clean(sheet), clean);
     for naming in 0..64 {
         let table = plain::table(sheet, naming).map(|table| {
             let counts = [table.start, table.left, table.rounds].map(u64::from);

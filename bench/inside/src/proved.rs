@@ -23,6 +23,13 @@ extern "C" {
         store_len: usize,
         out: *mut u64,
     ) -> c_uchar;
+    fn lockgraph_clean(
+        sheet: *const u8,
+        sheet_len: usize,
+        store: *mut u8,
+        store_len: usize,
+        out: *mut u64,
+    ) -> c_uchar;
 }
 
 /// The refusal, or 1, naming and type; 2, 0, 0 where it is unsatisfiable.
@@ -70,6 +77,23 @@ pub fn list(sheet: &[u8], naming: u64) -> Result<Vec<u16>, u8> {
         )
     };
     answer(refusal, out).map(|[left]| store[..left as usize].to_vec())
+}
+
+/// The refusal, or the clean text.
+pub fn clean(sheet: &[u8]) -> Result<Vec<u8>, u8> {
+    let mut store = [0; 1024];
+    let mut out = [0; 1];
+    // A store of 1,024 bytes that overlaps nothing, and `out` with the word that the prototype says.
+    let refusal = unsafe {
+        lockgraph_clean(
+            sheet.as_ptr(),
+            sheet.len(),
+            store.as_mut_ptr(),
+            store.len(),
+            out.as_mut_ptr(),
+        )
+    };
+    answer(refusal, out).map(|[length]| store[..length as usize].to_vec())
 }
 
 fn answer<T>(refusal: u8, out: T) -> Result<T, u8> {

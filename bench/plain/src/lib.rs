@@ -51,6 +51,7 @@ pub enum Refusal {
     Closure,
     Lean,
     Naming,
+    Clean = 18,
 }
 
 #[derive(Clone, Copy, PartialEq, Eq, Debug)]
@@ -72,6 +73,7 @@ pub struct Table {
 pub struct Reading {
     members: Vec<Member>,
     roots: Vec<u8>,
+    letters: Vec<u8>,
     lean: Vec<u8>,
     names: Vec<usize>,
 }
@@ -99,6 +101,7 @@ fn read_within(bytes: &[u8], limits: Limits) -> Result<Reading, Refusal> {
     let names = (0..lean.len()).filter(named).collect();
     Ok(Reading {
         roots: closure.roots,
+        letters: sheet.symbols.letters,
         members,
         lean,
         names,
@@ -159,6 +162,30 @@ pub fn list(bytes: &[u8], naming: u64) -> Result<Vec<u16>, Refusal> {
         family::layer(&table.words, ones, &mut types);
     }
     Ok(types)
+}
+
+/// The sheet written clean: lines 1 and 2, then each formula in canonical print.
+pub fn clean(bytes: &[u8]) -> Result<Vec<u8>, Refusal> {
+    let reading = read(bytes)?;
+    let mut lines = bytes.split_inclusive(|&b| b == b'\n');
+    let mut text = Vec::with_capacity(1024);
+    for _ in 0..2 {
+        text.extend_from_slice(lines.next().expect("two lines"));
+    }
+    for (number, &root) in reading.roots.iter().enumerate() {
+        let start = text.len();
+        let goal = number + 1 == reading.roots.len();
+        text.extend_from_slice(if goal { b"goal " } else { b"all " });
+        closure::put(&reading.members, &reading.letters, root, &mut text);
+        if text.len() - start > 200 {
+            return Err(Refusal::Clean);
+        }
+        text.push(b'\n');
+    }
+    match text.len() {
+        0..=1024 => Ok(text),
+        _ => Err(Refusal::Clean),
+    }
 }
 
 /// What the program prints of a sheet.
