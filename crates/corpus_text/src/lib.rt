@@ -1,5 +1,5 @@
 // What a corpus and its outcomes are written in: escaped texts, decimal numbers, stores filled with a pattern, the parts that outcome lines
-// have in common, and what List, Book and Snapshot answer.
+// have in common, and what List, Book, Clean and Snapshot answer.
 pub mod cleaned;
 pub mod number;
 pub mod outcome;
