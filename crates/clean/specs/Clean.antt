@@ -17,9 +17,11 @@ formulaLines spell [] = []
 formulaLines spell (p ∷ []) = (goalWord ++ print spell p) ∷ []
 formulaLines spell (p ∷ q ∷ r) = (allWord ++ print spell p) ∷ formulaLines spell (q ∷ r)
 
+-- the lines of the clean sheet
 abbrev pub cleanLines : List ℕ → List (List ℕ)
 cleanLines s = lineOf s 0 ∷ lineOf s 1 ∷ formulaLines (spellOf s) (forms s)
 
+-- and their text, each with its newline
 unfoldable pub cleanText : List ℕ → List ℕ
 unfolding formulaLines unlines
 cleanText s = unlines (cleanLines s)

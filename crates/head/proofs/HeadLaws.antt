@@ -1,41 +1,25 @@
 -- Laws of the first two lines and of the refusals 1 to 5. Assumes nothing.
-use mathlib.Core.Path.{_≡_, refl, sym, ap, _∙_}
-use mathlib.Core.Bool.{Bool, true, false, _&&_, _||_, false≢true}
+use mathlib.Core.Path.{_≡_, sym, ap, _∙_}
+use mathlib.Core.Bool.{true, false}
 use mathlib.Core.List.{List, []}
 use Prim.Native.Nat.{ℕ, _≤_}
 use native.Mathlib.Omega.{arith}
-use lib.Dec.{eqb, leb}
 use lib.ListN.{length, getD, take, drop, length-map}
 use lib.Seq.{length-take-le}
-use borrow.Author.Tests.{eq-eqb, ne-eqb, ltb-false, leb-true}
+use borrow.Author.Tests.{eq-eqb, ne-eqb}
 use Rattle.spelling.specs.Spelling.{word}
 use Rattle.layout.specs.Text.{part, endOf, split}
 use Rattle.head.specs.declared.names.Names.{Names}
 use Rattle.head.specs.declared.kinds.Kinds.{Kinds}
 use Rattle.head.specs.declared.Head.{Head}
-use Rattle.layout.specs.Layout.{newline, lines, linesFrom, lengthWrong, byteWrong, layoutRight, endsRight, lineOf}
+use Rattle.layout.specs.Layout.{newline, lines, linesFrom, lengthWrong, byteWrong, layoutRight, lineOf}
+use Rattle.layout.proofs.FrontLaws.{layout-parts, sheet-small}
 use Rattle.head.specs.Head.{spellings, kinds, NamesRead, KindsRead, layoutRefusal, declared, Accepted, HeadRead}
-use Rattle.head.proofs.WordLaws.{first, and-fst, and-snd}
+use Rattle.head.proofs.WordLaws.{first}
 
 module _ (s : List ℕ) (at e : ℕ) (is : e ≡ endOf newline s at) (inside : at ≤ length s) (within : e ≤ length s) where
   pub line-first : part s at e ≡ getD (split newline (drop at s)) 0 []
   line-first = rw (first newline s at e is inside within)
-
-or-left : (a b : Bool) → (a || b) ≡ false → a ≡ false
-or-left true b e = e
-or-left false b e = refl
-
-or-right : (a b : Bool) → (a || b) ≡ false → b ≡ false
-or-right true b e = absurd (false≢true (sym e))
-or-right false b e = e
-
-pub length-right : (s : List ℕ) → lengthWrong s ≡ false → length s ≤ 1024
-unfolding lengthWrong
-length-right s e = ltb-false _ _ (or-right (eqb (length s) 0) _ (or-left _ _ e))
-
-pub lines-right : (s : List ℕ) → layoutRight s ≡ true → length (lines s) ≤ 7
-unfolding layoutRight
-lines-right s e = leb-true _ _ (and-snd (endsRight s && leb 3 (length (lines s))) _ (and-fst _ _ e))
 
 module _ (s : List ℕ) where
   pub head-1 : (r : Head) → lengthWrong s ≡ true → r .refusal ≡ 1 → HeadRead s r
@@ -77,4 +61,4 @@ module _ (s : List ℕ) where
         pub accepted : (decl : List ℕ) (from : ℕ) → k .count ≡ m .count → decl ≡ declared (take (m .count) (m .words)) (take (m .count) (k .kinds))
             → (from ≤ length s) × (linesFrom s from ≡ drop 2 (lines s))
             → Accepted s (record { refusal = 0; count = m .count; words = m .words; kinds = k .kinds; decl = decl; from = from })
-        accepted decl from f e t = record { count = names-count; few = ms .few; words-are = ms .are; kinds-are = rw (← f) (ks .are); decl-is = e ∙ rw (ms .are, ← f, ks .are); inside = t .0; third = t .1; short = length-right s a; bounded = lines-right s c }
+        accepted decl from f e t = record { count = names-count; few = ms .few; words-are = ms .are; kinds-are = rw (← f) (ks .are); decl-is = e ∙ rw (ms .are, ← f, ks .are); inside = t .0; third = t .1; short = sheet-small s a; bounded = layout-parts s c .2 }

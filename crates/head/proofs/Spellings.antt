@@ -14,6 +14,7 @@ use Rattle.spelling.specs.Spelling.{spelled, word}
 use Rattle.spelling.proofs.SpellingLaws.{Spelled, spelled-is, word-injective}
 use Rattle.layout.specs.Text.{same, has, split}
 use Rattle.layout.specs.Layout.{lineOf}
+use Rattle.layout.proofs.UnlinesLaws.{or-none}
 use Rattle.head.specs.Head.{hasText, nameRight, wordRight, namesFrom, namesOf, spellings, space}
 use Rattle.head.proofs.WordLaws.{and-fst, and-snd, collect}
 
@@ -47,19 +48,11 @@ same-word v w x y = go (same v w) refl
     go false e = ne-eqb (word v) (word w) (λ q. let z : v ≡ w = word-injective v w x y q in true≢false (sym (same-self w) ∙ ap (λ u. same u w) (sym z) ∙ e))
 
 -- ---- a text among some
-or-out : (a b : Bool) → (a || b) ≡ false → a ≡ true → ⊥
-or-out true b e f = true≢false e
-or-out false b e f = false≢true f
-
-or-in : (a b : Bool) → (a || b) ≡ false → b ≡ false
-or-in true b e = absurd (true≢false e)
-or-in false b e = e
-
 text-not : (w : List ℕ) (seen : List (List ℕ)) → hasText w seen ≡ false → (k : ℕ) → k < length seen → getD seen k [] ≡ w → ⊥
 unfolding hasText
 text-not w [] e k h q = not-suc-le-zero h
-text-not w (v ∷ r) e zero h q = or-out (same v w) (hasText w r) e (ap (λ u. same u w) q ∙ same-self w)
-text-not w (v ∷ r) e (suc k) h q = text-not w r (or-in (same v w) (hasText w r) e) k (omega arith) q
+text-not w (v ∷ r) e zero h q = true≢false (sym (ap (λ u. same u w) q ∙ same-self w) ∙ or-none (same v w) (hasText w r) e .0)
+text-not w (v ∷ r) e (suc k) h q = text-not w r (or-none (same v w) (hasText w r) e .1) k (omega arith) q
 
 has-text : (w : List ℕ) (seen : List (List ℕ)) → Spelled w → ((k : ℕ) → k < length seen → Spelled (getD seen k [])) → has (word w) (map word seen) ≡ hasText w seen
 unfolding has hasText

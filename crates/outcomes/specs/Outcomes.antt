@@ -133,7 +133,7 @@ verdictOf s = verdictAnswer s (refusalOf s)
 
 -- ---- Clean
 
--- 18: a line, the text or the store
+-- 18, after 1 to 10: a line or the text is too long, or the store too short
 unfoldable pub cleanRefusal : List ℕ → ℕ → ℕ
 unfolding cleanWrong
 cleanRefusal s long = orElse (refusalOf s) (cond (cleanWrong s long) 18 0)

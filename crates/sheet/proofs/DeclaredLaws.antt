@@ -27,6 +27,7 @@ use Rattle.ctl.proofs.ModeLaws.{modes-in, mode-lt}
 use Rattle.ctl.proofs.UsesLaws.{uses-raw}
 use Rattle.operators.specs.Operators.{modal as modalRaw, binary as pathRaw}
 use Rattle.grammar.specs.Grammar.{Mode, forward, backward, Tree, zero as zeroTree, one, letter, neg, infixed, modal, path, entryOf, isSymbol, isField, modeNumber, holdsMode, modeSet, resolve, someNoField, symbolWrong, emptyOrTwice, bracesWrong}
+use Rattle.layout.proofs.UnlinesLaws.{or-none}
 use Rattle.head.specs.Head.{spellings}
 use Rattle.head.proofs.Spellings.{sheet-spellings}
 use Rattle.sheet.specs.Refusal.{decls, readRefusal}
@@ -35,10 +36,6 @@ use Rattle.sheet.specs.Symbols.{Proposition, Field, Fields, Kinded}
 use Rattle.sheet.proofs.RefusalLaws.{right-kinds}
 use Rattle.sheet.proofs.FormulaTrees.{formula-read}
 use Rattle.sheet.proofs.KindLaws.{symbol-iff, field-iff}
-
-or-none : (a b : Bool) → (a || b) ≡ false → (a ≡ false) × (b ≡ false)
-or-none true b e = absurd (true-and-false true refl e)
-or-none false b e = (refl, e)
 
 -- ---- trees: what holds of each symbol and of each set of modes that is right holds of a formula in which none is wrong
 module _ (S M : ℕ → Type 0) (decl : List ℕ) (sym-right : (k : ℕ) → isSymbol decl k ≡ true → S (entryOf decl k - 1))
