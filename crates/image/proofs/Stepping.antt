@@ -1,22 +1,17 @@
 -- The loop over the modes of a set: what is linked by one of them is dropped. For any word count. Assumes nothing.
-use mathlib.Core.Path.{_≡_, refl, sym, ap, ap₂, _∙_}
+use mathlib.Core.Path.{_≡_, refl, sym, ap, _∙_}
 use mathlib.Core.Bool.{and-true, Bool, true, false, not, _&&_, _||_}
 use mathlib.Core.List.{List}
 use Prim.Native.Nat.{ℕ, _*_, _^_, _≤_, _<_}
 use native.Mathlib.Omega.{arith}
 use lib.Count.{trailingZeros}
-use lib.Dec.{eqb}
 use lib.ListN.{length}
 use Rattle.ctl.specs.Modes.{hasMode}
-use Rattle.wordset.proofs.BelowLaws.{any-ext, any-none}
-use Rattle.wordset.proofs.BitLaws.{bit-none}
 use Rattle.wordset.specs.Below.{anyBelow}
-use Rattle.wordset.specs.Word.{bit}
 use Rattle.wordset.specs.Words.{member, minus, packed}
-use Rattle.truth.proofs.Joining.{any-take, swap}
+use Rattle.truth.proofs.Joining.{modes-lowest, modes-none}
 use Rattle.truth.proofs.ListWords.{held, minus-member}
-use Rattle.members.proofs.ModeLaws.{mode-bit}
-use Rattle.truth.proofs.Sifting.{less, less-bit, less-lt, lowest}
+use Rattle.truth.proofs.Sifting.{less, less-lt, lowest}
 use Rattle.conditions.specs.Entries.{linkedTo}
 use Rattle.image.proofs.Draining.{linked-ext}
 
@@ -46,21 +41,11 @@ module _ {F : ℕ → ℕ → Bool} {w a : ℕ} {d₀ rest₀ : List ℕ} where
 
     -- what passes F for the lowest mode was dropped
     module _ (n : left ≡ 0 → ⊥) (d′ : List ℕ) (f : (t : ℕ) → t < w * 64 → member d′ t ≡ (member d t && not (F (trailingZeros 64 left) t))) where
-      less-mode : (j : ℕ) → hasMode (less left) j ≡ (hasMode left j && not (eqb j (trailingZeros 64 left)))
-      less-mode j = mode-bit (less left) j ∙ less-bit left n (omega (arith, s .fits)) j ∙ ap (λ z. z && not (eqb j (trailingZeros 64 left))) (sym (mode-bit left j))
-
       now-is : (t : ℕ) → t < w * 64 → (member d′ t && not (anyBelow 16 (λ j. hasMode (less left) j && F j t))) ≡ (member d₀ t && not (anyBelow 16 (λ j. hasMode a j && F j t)))
       now-is t l =
-          ap₂ (λ x y. x && not y) (f t l) (any-ext (λ j. hasMode (less left) j && F j t) (λ j. R j && not (eqb j m)) 16 (λ j k. ap (λ z. z && F j t) (less-mode j) ∙ swap (hasMode left j) (eqb j m) (F j t)))
-          ∙ out (member d t) (F m t) (anyBelow 16 (λ j. R j && not (eqb j m)))
-          ∙ ap (λ z. member d t && not z) (ap (λ z. (z && F m t) || anyBelow 16 (λ j. R j && not (eqb j m))) (sym (mode-bit left m ∙ lowest 16 left (omega arith) (s .fits) n .1)) ∙ sym (any-take R 16 m (mode-low n))) ∙ s .is t l
+          let r = anyBelow 16 (λ j. hasMode (less left) j && F j t) in
+          ap (λ x. x && not r) (f t l) ∙ out (member d t) (F (trailingZeros 64 left) t) r ∙ ap (λ z. member d t && not z) (sym (modes-lowest (λ j. F j t) left (s .fits) n)) ∙ s .is t l
         where
-          m : ℕ
-          m = trailingZeros 64 left
-
-          R : ℕ → Bool
-          R j = hasMode left j && F j t
-
           out : (d f r : Bool) → ((d && not f) && not r) ≡ (d && not (f || r))
           out true true r = refl
           out true false r = refl
@@ -76,4 +61,4 @@ module _ {F : ℕ → ℕ → Bool} {w a : ℕ} {d₀ rest₀ : List ℕ} where
     pub mode-end : left ≡ 0 → (t : ℕ) → t < w * 64 → member d t ≡ (member d₀ t && not (anyBelow 16 (λ j. hasMode a j && F j t)))
     mode-end e t l =
         sym (and-true (member d t))
-        ∙ ap (λ z. member d t && not z) (sym (any-none (λ j. hasMode left j && F j t) 16 (λ j k. ap (λ z. z && F j t) (mode-bit left j ∙ ap (λ (n : ℕ). bit n j) e ∙ bit-none j)))) ∙ s .is t l
+        ∙ ap (λ z. member d t && not z) (sym (modes-none (λ j. F j t) left e)) ∙ s .is t l

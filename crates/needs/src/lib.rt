@@ -5,21 +5,20 @@ use members::parts::arg;
 use members::parts::has_mode;
 use members::parts::mode_of;
 use members::parts::tag;
+use truth::blocks::fill_block;
 ghost use mathlib.Core.Path.{_≡_};
-ghost use mathlib.Core.Bool.{_&&_, cond};
+ghost use mathlib.Core.Bool.{Bool, _&&_, _||_, cond};
 ghost use Prim.Native.Nat.{ℕ, _+_, _*_, _%_, _^_, _≤_, _<_};
 ghost use lib.Dec.{eqb};
 ghost use lib.ListN.{length, set, take};
 ghost use Rattle.ctl.specs.Modes.{hasMode};
-ghost use Rattle.wordset.specs.Answers.{Answers};
 ghost use Rattle.members.specs.Members.{argW, tagW};
+ghost use Rattle.truth.specs.Blocks.{BlockIs, Redone};
 ghost use Rattle.truth.specs.Truths.{Truths};
 ghost use Rattle.needs.specs.NeedWords.{fieldNeed};
-ghost use Rattle.needs.specs.Needs.{Fields, Listed, someEx};
-ghost use Rattle.needs.specs.FieldBlocks.{Blocks, ExFields, exTrue, inBlock};
+ghost use Rattle.needs.specs.Needs.{Fields, Listed, exOver, someEx};
+ghost use Rattle.needs.specs.FieldBlocks.{ExFields};
 ghost use Rattle.needs.specs.Listing.{Asks, SoFar};
-
-const ALL: u64 = 0xFFFF_FFFF_FFFF_FFFF;
 
 // The field of an EX over one field alone, as a set of modes; no mode for any other member.
 fn field_of(x: u64) -> u64
@@ -48,59 +47,45 @@ fn ex_fields(ms: &[u64]) -> u64
     acc
 }
 
-// Answers k of the types in which member i is an EX over field f alone and true.
-fn ex_part(ms: &[u64], ln: &[u8], tw: &[u64], w: usize, f: usize, i: usize, k: usize) -> u64
-    requires { ⌜ Truths (now ms) (now ln) w (now tw) × ((f < 8) × (i < length (now ms)) × (k < w)) ⌝ }
-    ensures { λ r. ⌜ Answers (exTrue (now (ms .entry)) (now (ln .entry)) f i) k r ⌝ }
-{
-    if has_mode(field_of(ms[i]), f) {
-        return tw[i * w + k];
-    }
-    0
-}
-
-// Answers k of the types in which some EX over field f alone is true.
-fn ex_word(ms: &[u64], ln: &[u8], tw: &[u64], w: usize, f: usize, k: usize) -> u64
-    requires { ⌜ Truths (now ms) (now ln) w (now tw) × ((f < 8) × (k < w)) ⌝ }
-    ensures { λ r. ⌜ Answers (someEx (now (ms .entry)) (now (ln .entry)) f) k r ⌝ }
-{
-    let mut acc: u64 = 0;
-    let mut i = 0;
-    while i < ms.len() {
-        acc = acc | ex_part(ms, ln, tw, w, f, i, k);
-        i += 1;
-    }
-    acc
-}
-
-// Answers k of the types of block e, which is behind those of the members; a is the fields over which there is an EX.
-fn extra_word(ms: &[u64], ln: &[u8], tw: &[u64], w: usize, a: u64, e: usize, k: usize) -> u64
-    requires { ⌜ Truths (now ms) (now ln) w (now tw) × ExFields (now ms) a ⌝ }
-    requires { ⌜ (length (now ms) ≤ e) × (e < length (now ms) + 9) × (k < w) ⌝ }
-    ensures { λ r. ⌜ Answers (inBlock (now (ms .entry)) (now (ln .entry)) e) k r ⌝ }
-{
-    let f = e - ms.len();
-    if f == 8 {
-        return ALL;
-    }
-    if has_mode(a, f) {
-        return ex_word(ms, ln, tw, w, f, k);
-    }
-    0
-}
-
-// Where the blocks below e are done, block e is done too.
-fn extra_words(ms: &[u64], ln: &[u8], tw: &mut [u64], w: usize, a: u64, e: usize)
-    requires { ⌜ Blocks (now ms) (now ln) w (now tw) e × ExFields (now ms) a ⌝ }
-    requires { ⌜ (length (now ms) ≤ e) × (e < length (now ms) + 9) ⌝ }
-    ensures { λ _. ⌜ Blocks (now (ms .entry)) (now (ln .entry)) w (now (tw .exit)) (e + 1) ⌝ }
+// Block e gets the types of block i, which is before it, besides its own.
+fn join_block(tw: &mut [u64], w: usize, e: usize, i: usize)
+    requires { ⌜ (i < e) × (e * w + w ≤ length (now tw)) ⌝ }
+    ensures { λ _. ⌜ ((P Q : ℕ → Bool) → BlockIs P w e (now (tw .entry)) → BlockIs Q w i (now (tw .entry)) → Redone w e (λ t. P t || Q t) (now (tw .entry)) (now (tw .exit))) ⌝ }
 {
     let mut k = 0;
     while k < w {
-        let x = extra_word(ms, ln, tw, w, a, e, k);
         let at = e * w + k;
-        tw[at] = x;
+        tw[at] = tw[at] | tw[i * w + k];
         k += 1;
+    }
+}
+
+// The same where member i is an EX over field f alone; else nothing.
+fn join_member(ms: &[u64], tw: &mut [u64], w: usize, f: usize, e: usize, i: usize)
+    requires { ⌜ (f < 8) × (i < length (now ms)) × (length (now ms) ≤ e) × (e * w + w ≤ length (now tw)) ⌝ }
+    ensures { λ _. ⌜ ((P Q : ℕ → Bool) → BlockIs P w e (now (tw .entry)) → BlockIs Q w i (now (tw .entry)) → Redone w e (λ t. P t || (exOver (now (ms .entry)) f i && Q t)) (now (tw .entry)) (now (tw .exit))) ⌝ }
+{
+    if !has_mode(field_of(ms[i]), f) {
+        return;
+    }
+    join_block(tw, w, e, i);
+}
+
+// The block of field f becomes the types in which some EX over it is true; a is the fields over which there is one.
+fn field_block(ms: &[u64], ln: &[u8], tw: &mut [u64], w: usize, a: u64, f: usize)
+    requires { ⌜ Truths (now ms) (now ln) w (now tw) × ExFields (now ms) a ⌝ }
+    requires { ⌜ (f < 8) × ((length (now ms) + f) * w + w ≤ length (now tw)) ⌝ }
+    ensures { λ _. ⌜ Redone w (length (now (ms .entry)) + f) (someEx (now (ms .entry)) (now (ln .entry)) f) (now (tw .entry)) (now (tw .exit)) ⌝ }
+{
+    let e = ms.len() + f;
+    fill_block(tw, w, e, false);
+    if !has_mode(a, f) {
+        return;
+    }
+    let mut i = 0;
+    while i < ms.len() {
+        join_member(ms, tw, w, f, e, i);
+        i += 1;
     }
 }
 
@@ -112,12 +97,12 @@ pub fn field_words(ms: &[u64], ln: &[u8], tw: &mut [u64], w: usize)
     ensures { λ _. ⌜ Fields (now (ms .entry)) (now (ln .entry)) w (now (tw .exit)) ⌝ }
 {
     let a = ex_fields(ms);
-    let end = ms.len() + 9;
-    let mut e = ms.len();
-    while e < end {
-        extra_words(ms, ln, tw, w, a, e);
-        e += 1;
+    let mut f = 0;
+    while f < 8 {
+        field_block(ms, ln, tw, w, a, f);
+        f += 1;
     }
+    fill_block(tw, w, ms.len() + 8, true);
 }
 
 // Whether a member has a need of its own.

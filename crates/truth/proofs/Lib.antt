@@ -2,9 +2,11 @@ pub mod TestLaws
 pub mod ListWords
 pub mod MemberLaws
 pub mod BlockLaws
+pub mod Redoing
 pub mod Folds
 pub mod PlaceWords
 pub mod TruthLaws
-pub mod TruthWords
 pub mod Sifting
 pub mod Joining
+pub mod Adding
+pub mod MemberBlocks

@@ -14,11 +14,11 @@ use Rattle.ctl.specs.Formula.{Form, ax, ex, fls, lit, tru}
 use Rattle.ctl.specs.Modes.{hasMode}
 use Rattle.ctl.specs.Types.{axEvery, exSome, holds, inType, indexOf, truth}
 use Rattle.wordset.proofs.BelowLaws.{any-ext, any-intro, least-holds, least-le, least-lt, least-suc, least-zero}
-use Rattle.wordset.specs.Below.{least}
+use Rattle.wordset.specs.Below.{anyBelow, least}
 use Rattle.members.specs.Members.{argW, formBy, leftW, tagW}
 use Rattle.truth.specs.Tables.{Leans, Table, argAt, form, leanForms, leftAt, rightAt, tagAt}
-use Rattle.truth.specs.Blocks.{has}
-use Rattle.truth.specs.Truths.{Tr, Truths, modal, placeOf, plain, someMode, trueAt}
+use Rattle.truth.specs.Blocks.{has, turned}
+use Rattle.truth.specs.Truths.{Tr, Truths, modal, nextTag, nexts, placeOf, plain, trueAt}
 use Rattle.truth.proofs.MemberLaws.{Denotes, denotes-own, form-tag, left-in, tag-of}
 use Rattle.truth.proofs.BlockLaws.{block-has}
 use Rattle.members.proofs.ModeLaws.{every-all, some-any}
@@ -48,10 +48,6 @@ unfolding modal
 modal-left x g a b e f = sym (ap₂ (λ (s v : Bool). s && (v && eqb (leftW x) b)) (eq-eqb (tagW x) g e) (eq-eqb (argW x) a f))
 
 -- ---- EX and AX: n is true for AX
-
-abbrev nextTag : Bool → ℕ
-nextTag false = 6
-nextTag true = 7
 
 abbrev nextForm : Bool → ℕ → Form → Form
 nextForm false = ex
@@ -115,26 +111,29 @@ module _ {ms : List ℕ} (t : Table ms) where
         modal-in (getD ms j 0) 2 a 0 g ea (t .bare j h (omega arith))))
         (λ j h m. (let e = modal-out (getD ms j 0) 2 a 0 m in form-tag t j h 2 (e .0) ∙ ap lit (e .1)))
 
-pub place-le : (ms ln : List ℕ) (g a b : ℕ) → placeOf ms ln g a b ≤ length ln
+pub place-small : {ms ln : List ℕ} → Leans ms ln → (g a b : ℕ) → {r : ℕ} → r ≡ placeOf ms ln g a b → r ≤ 60
 unfolding placeOf
-place-le ms ln g a b = least-le (length ln) (λ k. modal (getD ms (getD ln k 0) 0) g a b)
+place-small {ms} {ln} l g a b e = let k = least-le (length ln) (λ k. modal (getD ms (getD ln k 0) 0) g a b) in let s = l .short in omega arith
 
 -- ---- several modes
 
 module _ {ms ln : List ℕ} (t : Table ms) (le : Leans ms ln) where
-  some-ex : (a b : ℕ) (p : Form) → Denotes ms b p → (u : ℕ) → someMode ms ln false a b u ≡ exSome (leanForms ms ln) u a p
-  unfolding someMode exSome holds
-  some-ex a b p s u =
-      any-ext (λ m. hasMode a m && inType u (placeOf ms ln 6 (2 ^ m) b)) (λ m. hasMode a m && inType u (indexOf (ex (2 ^ m) p) (leanForms ms ln))) 16
-      (λ m h. ap (λ k. hasMode a m && inType u k) (place-next t ln le false (2 ^ m) b p s))
-      ∙ some-any (λ m. inType u (indexOf (ex (2 ^ m) p) (leanForms ms ln))) a
+  abbrev at-place : Bool → ℕ → Form → ℕ → ℕ → Bool
+  at-place n u p a m = hasMode a m && turned n (inType u (indexOf (nextForm n (2 ^ m) p) (leanForms ms ln)))
 
-  every-ax : (a b : ℕ) (p : Form) → Denotes ms b p → (u : ℕ) → not (someMode ms ln true a b u) ≡ axEvery (leanForms ms ln) u a p
-  unfolding someMode axEvery holds
-  every-ax a b p s u =
-      ap not (any-ext (λ m. hasMode a m && not (inType u (placeOf ms ln 7 (2 ^ m) b))) (λ m. hasMode a m && not (inType u (indexOf (ax (2 ^ m) p) (leanForms ms ln)))) 16
-      (λ m h. ap (λ k. hasMode a m && not (inType u k)) (place-next t ln le true (2 ^ m) b p s)))
-      ∙ every-all (λ m. inType u (indexOf (ax (2 ^ m) p) (leanForms ms ln))) a
+  nexts-at : (n : Bool) (a b : ℕ) (p : Form) → Denotes ms b p → (u : ℕ) → nexts ms ln n a b u ≡ turned n (anyBelow 16 (at-place n u p a))
+  unfolding nexts
+  nexts-at n a b p s u =
+      ap (turned n) (any-ext (λ m. hasMode a m && turned n (inType u (placeOf ms ln (nextTag n) (2 ^ m) b))) (at-place n u p a) 16
+      (λ m h. ap (λ k. hasMode a m && turned n (inType u k)) (place-next t ln le n (2 ^ m) b p s)))
+
+  some-ex : (a b : ℕ) (p : Form) → Denotes ms b p → (u : ℕ) → nexts ms ln false a b u ≡ exSome (leanForms ms ln) u a p
+  unfolding exSome holds
+  some-ex a b p s u = nexts-at false a b p s u ∙ some-any (λ m. inType u (indexOf (ex (2 ^ m) p) (leanForms ms ln))) a
+
+  every-ax : (a b : ℕ) (p : Form) → Denotes ms b p → (u : ℕ) → nexts ms ln true a b u ≡ axEvery (leanForms ms ln) u a p
+  unfolding axEvery holds
+  every-ax a b p s u = nexts-at true a b p s u ∙ every-all (λ m. inType u (indexOf (ax (2 ^ m) p) (leanForms ms ln))) a
 
 -- the first member of tag 0 denotes 1, that of tag 1 denotes 0
 module _ {ms : List ℕ} (t : Table ms) where
@@ -165,8 +164,8 @@ module _ {ms ln : List ℕ} (t : Table ms) (le : Leans ms ln) (i : ℕ) (h : i <
   abbrev tr : ℕ → Bool
   tr j = trueAt ms ln j u
 
-  abbrev some : Bool → ℕ → Bool
-  some n b = someMode ms ln n (argAt ms i) b u
+  abbrev next : Bool → ℕ → Bool
+  next n b = nexts ms ln n (argAt ms i) b u
 
   by-tag : (k : ℕ) → tagAt ms i ≡ k → Tr ms ln u (formBy k (argAt ms i) (form ms (leftAt ms i)) (form ms (rightAt ms i))) ≡ tr i
   by-tag k e = sym (ap (Tr ms ln u) (form-tag t i h k e))
@@ -201,31 +200,31 @@ module _ {ms ln : List ℕ} (t : Table ms) (le : Leans ms ln) (i : ℕ) (h : i <
   unfolding truth
   truth-5 e = by-tag 5 e
 
-  pub truth-6 : tagAt ms i ≡ 6 → some false (leftAt ms i) ≡ tr i
+  pub truth-6 : tagAt ms i ≡ 6 → next false (leftAt ms i) ≡ tr i
   unfolding truth
   truth-6 e = some-ex t le (argAt ms i) (leftAt ms i) (form ms (leftAt ms i)) (body (omega arith)) u ∙ by-tag 6 e
 
-  pub truth-7 : tagAt ms i ≡ 7 → not (some true (leftAt ms i)) ≡ tr i
+  pub truth-7 : tagAt ms i ≡ 7 → next true (leftAt ms i) ≡ tr i
   unfolding truth
   truth-7 e = every-ax t le (argAt ms i) (leftAt ms i) (form ms (leftAt ms i)) (body (omega arith)) u ∙ by-tag 7 e
 
-  pub truth-8 : tagAt ms i ≡ 8 → (tr (rightAt ms i) || (tr (leftAt ms i) && some false i)) ≡ tr i
+  pub truth-8 : tagAt ms i ≡ 8 → (tr (rightAt ms i) || (tr (leftAt ms i) && next false i)) ≡ tr i
   unfolding truth
   truth-8 e = ap (λ s. tr (rightAt ms i) || (tr (leftAt ms i) && s)) (some-ex t le (argAt ms i) i _ (own 8 e) u) ∙ by-tag 8 e
 
-  pub truth-9 : tagAt ms i ≡ 9 → (tr (rightAt ms i) || (tr (leftAt ms i) && (some false (plain ms 0) && not (some true i)))) ≡ tr i
+  pub truth-9 : tagAt ms i ≡ 9 → (tr (rightAt ms i) || (tr (leftAt ms i) && (next false (plain ms 0) && next true i))) ≡ tr i
   unfolding truth
   truth-9 e =
       ap₂ (λ s v. tr (rightAt ms i) || (tr (leftAt ms i) && (s && v))) (some-ex t le (argAt ms i) (plain ms 0) tru (denotes-tru t) u) (every-ax t le (argAt ms i) i _ (own 9 e) u)
       ∙ by-tag 9 e
 
-  pub truth-10 : tagAt ms i ≡ 10 → (tr (rightAt ms i) && (tr (leftAt ms i) || (not (some true (plain ms 1)) || some false i))) ≡ tr i
+  pub truth-10 : tagAt ms i ≡ 10 → (tr (rightAt ms i) && (tr (leftAt ms i) || (next true (plain ms 1) || next false i))) ≡ tr i
   unfolding truth
   truth-10 e =
       ap₂ (λ s v. tr (rightAt ms i) && (tr (leftAt ms i) || (s || v))) (every-ax t le (argAt ms i) (plain ms 1) fls (denotes-fls t) u) (some-ex t le (argAt ms i) i _ (own 10 e) u)
       ∙ by-tag 10 e
 
-  pub truth-11 : tagAt ms i ≡ 11 → (tr (rightAt ms i) && (tr (leftAt ms i) || not (some true i))) ≡ tr i
+  pub truth-11 : tagAt ms i ≡ 11 → (tr (rightAt ms i) && (tr (leftAt ms i) || next true i)) ≡ tr i
   unfolding truth
   truth-11 e = ap (λ s. tr (rightAt ms i) && (tr (leftAt ms i) || s)) (every-ax t le (argAt ms i) i _ (own 11 e) u) ∙ by-tag 11 e
 

@@ -1,5 +1,6 @@
 -- Truth of the members in all types, by words. Assumes nothing.
-use mathlib.Core.Bool.{Bool, true, false, not, _&&_}
+use mathlib.Core.Path.{_≡_}
+use mathlib.Core.Bool.{Bool, true, false, _&&_}
 use mathlib.Core.List.{List}
 use Prim.Native.Nat.{ℕ, _+_, _*_, _^_, _≤_, _<_}
 use lib.Dec.{eqb}
@@ -9,7 +10,8 @@ use Rattle.ctl.specs.Modes.{hasMode}
 use Rattle.ctl.specs.Types.{inType, truth}
 use Rattle.wordset.specs.Below.{anyBelow, least}
 use Rattle.members.specs.Members.{argW, leftW, tagW}
-use Rattle.truth.specs.Tables.{form, leanForms, tagAt}
+use Rattle.truth.specs.Tables.{form, leanForms, leftAt, rightAt, tagAt}
+use Rattle.truth.specs.Blocks.{Redone, expanded, turned}
 use Rattle.wordset.specs.Answers.{Answers}
 
 -- truth in a type; member i is true in type t
@@ -39,10 +41,17 @@ placeOf ms ln g a b = least (length ln) (λ k. modal (getD ms (getD ln k 0) 0) g
 unfoldable pub plain : List ℕ → ℕ → ℕ
 plain ms g = least (length ms) (λ i. eqb (tagAt ms i) g)
 
--- what one mode adds: EX over it is true, AX over it is false
-abbrev pub oneMode : List ℕ → List ℕ → Bool → ℕ → ℕ → ℕ → ℕ → Bool
-oneMode ms ln false a m b t = hasMode a m && inType t (placeOf ms ln 6 (2 ^ m) b)
-oneMode ms ln true a m b t = hasMode a m && not (inType t (placeOf ms ln 7 (2 ^ m) b))
+-- the tag of EX, or of AX where n is true
+abbrev pub nextTag : Bool → ℕ
+nextTag true = 7
+nextTag false = 6
 
-unfoldable pub someMode : List ℕ → List ℕ → Bool → ℕ → ℕ → ℕ → Bool
-someMode ms ln n a b t = anyBelow 16 (λ m. oneMode ms ln n a m b t)
+-- EX over some mode of a with the body b is true; where n is true, AX over each of them: over none it is false
+unfoldable pub nexts : List ℕ → List ℕ → Bool → ℕ → ℕ → ℕ → Bool
+nexts ms ln n a b t = turned n (anyBelow 16 (λ m. hasMode a m && turned n (inType t (placeOf ms ln (nextTag n) (2 ^ m) b))))
+
+-- block i answers a test that gives, with its operands, where member i is true: as an until does, or, where until is false, a release
+pub record Stepped (ms ln : List ℕ) (w i : ℕ) (until : Bool) (ws ws′ : List ℕ) : Type 0 where
+  pub test : ℕ → Bool
+  pub redone : Redone w i test ws ws′
+  pub is : (t : ℕ) → expanded until (test t) (trueAt ms ln (leftAt ms i) t) (trueAt ms ln (rightAt ms i) t) ≡ trueAt ms ln i t

@@ -1,19 +1,25 @@
-// Truth of every member in all types, by words. A member is true by its tag, its operands' words and the words of places of the lean: an
+// Truth of every member in all types, block after block. A member is true by its tag, its operands' blocks and places of the lean: an
 // until or a release goes through EX and AX over its single modes. A set of types is w words: type t is bit t mod 64 of word t div 64. Throughout, ms is the table of closure
 // members, with values that do not occur behind them, ln the lean by its members' places in ms, tw the truth words (block i: the types in which member i is true). Assumes nothing.
+pub mod blocks;
+
+use blocks::add_place;
+use blocks::expand_block;
+use blocks::fill_block;
+use blocks::turn_block;
 use members::parts::arg;
-use members::parts::has_mode;
 use members::parts::left;
 use members::parts::right;
 use members::parts::tag;
 ghost use mathlib.Core.Path.{_≡_};
+ghost use mathlib.Core.Bool.{Bool};
 ghost use Prim.Native.Nat.{ℕ, _+_, _*_, _≤_, _<_};
-ghost use lib.ListN.{length, getD};
+ghost use lib.ListN.{length};
 ghost use Rattle.ctl.specs.Types.{inType};
-ghost use Rattle.truth.specs.Tables.{Leans, Table, leftAt, rightAt, tagAt};
+ghost use Rattle.truth.specs.Tables.{Leans, Table, argAt, tagAt};
 ghost use Rattle.wordset.specs.Answers.{Answers};
-ghost use Rattle.truth.specs.Blocks.{has};
-ghost use Rattle.truth.specs.Truths.{Truths, modal, oneMode, placeOf, plain, someMode, trueAt};
+ghost use Rattle.truth.specs.Blocks.{BlockIs, Redone, added, has};
+ghost use Rattle.truth.specs.Truths.{Stepped, Truths, modal, nextTag, nexts, placeOf, plain, trueAt};
 
 // Answers 0 of the types that have place i, for i below 6: bit b is bit i of b.
 const PLACES: [u64; 6] = [
@@ -81,115 +87,113 @@ fn find_plain(ms: &[u64], g: u64) -> usize
     i
 }
 
-// What mode m of the set a adds, with the body b: the types with EX over m, or, where n is true, those without AX over m.
-fn mode_word(ms: &[u64], ln: &[u8], n: bool, a: u64, m: usize, b: usize, idx: usize) -> u64
-    requires { ⌜ Leans (now ms) (now ln) ⌝ }
-    requires { ⌜ m < 16 ⌝ }
-    ensures { λ r. ⌜ Answers (oneMode (now (ms .entry)) (now (ln .entry)) n a m b) idx r ⌝ }
+// The tag of EX, or of AX where every is true.
+fn next_tag(every: bool) -> u64
+    ensures { λ r. ⌜ r ≡ nextTag every ⌝ }
 {
-    if !has_mode(a, m) {
-        return 0;
+    if every {
+        return 7;
     }
-    if n {
-        return !place_word(find_place(ms, ln, 7, 1 << m, b), idx);
-    }
-    place_word(find_place(ms, ln, 6, 1 << m, b), idx)
+    6
 }
 
-// The same for all modes of the set a.
-fn some_mode(ms: &[u64], ln: &[u8], n: bool, a: u64, b: usize, idx: usize) -> u64
+// EX over one mode of member i with the body b joins block i; where every is true, only AX over each of them stays in it.
+fn add_modes(ms: &[u64], ln: &[u8], tw: &mut [u64], w: usize, i: usize, b: usize, every: bool)
     requires { ⌜ Leans (now ms) (now ln) ⌝ }
-    ensures { λ r. ⌜ Answers (someMode (now (ms .entry)) (now (ln .entry)) n a b) idx r ⌝ }
+    requires { ⌜ (i < length (now ms)) × (i * w + w ≤ length (now tw)) ⌝ }
+    ensures { λ _. ⌜ ((P : ℕ → Bool) → BlockIs P w i (now (tw .entry)) → Redone w i (λ t. added every (P t) (nexts (now (ms .entry)) (now (ln .entry)) every (argAt (now (ms .entry)) i) b t)) (now (tw .entry)) (now (tw .exit))) ⌝ }
 {
-    let mut acc: u64 = 0;
-    let mut rest = a % 65536;
+    let g = next_tag(every);
+    let mut rest = arg(ms[i]);
     while rest != 0 {
         let m = u64::trailing_zeros(rest) as usize;
-        acc = acc | mode_word(ms, ln, n, a, m, b, idx);
+        add_place(tw, w, i, find_place(ms, ln, g, 1 << m, b), every);
         rest = rest & (rest - 1);
     }
-    acc
 }
 
-// Answers idx of member i, which has no operands.
-fn leaf_word(ms: &[u64], ln: &[u8], i: usize, idx: usize) -> u64
+// Block i becomes the types in which EX over one mode of member i with the body b is true; where every is true, AX over each of them.
+fn next_block(ms: &[u64], ln: &[u8], tw: &mut [u64], w: usize, i: usize, b: usize, every: bool)
+    requires { ⌜ Leans (now ms) (now ln) ⌝ }
+    requires { ⌜ (i < length (now ms)) × (i * w + w ≤ length (now tw)) ⌝ }
+    ensures { λ _. ⌜ Redone w i (nexts (now (ms .entry)) (now (ln .entry)) every (argAt (now (ms .entry)) i) b) (now (tw .entry)) (now (tw .exit)) ⌝ }
+{
+    fill_block(tw, w, i, every);
+    add_modes(ms, ln, tw, w, i, b, every);
+}
+
+// Block i becomes the types in which member i, which has no operands, is true.
+fn leaf_block(ms: &[u64], ln: &[u8], tw: &mut [u64], w: usize, i: usize)
     requires { ⌜ Table (now ms) ⌝ }
     requires { ⌜ Leans (now ms) (now ln) ⌝ }
-    requires { ⌜ (i < length (now ms)) × (tagAt (now ms) i < 4) ⌝ }
-    ensures { λ r. ⌜ Answers (trueAt (now (ms .entry)) (now (ln .entry)) i) idx r ⌝ }
+    requires { ⌜ (i < length (now ms)) × (i * w + w ≤ length (now tw)) × (tagAt (now ms) i < 4) ⌝ }
+    ensures { λ _. ⌜ Redone w i (trueAt (now (ms .entry)) (now (ln .entry)) i) (now (tw .entry)) (now (tw .exit)) ⌝ }
 {
     let x = ms[i];
     let g = tag(x);
-    if g == 0 {
-        return 0xFFFF_FFFF_FFFF_FFFF;
+    fill_block(tw, w, i, g == 0);
+    if g < 2 {
+        return;
     }
-    if g == 1 {
-        return 0;
-    }
-    let p = place_word(find_place(ms, ln, 2, arg(x), 0), idx);
+    add_place(tw, w, i, find_place(ms, ln, 2, arg(x), 0), false);
     if g == 2 {
-        return p;
+        return;
     }
-    !p
+    turn_block(tw, w, i);
 }
 
-// Answers idx of member i, an until or a release, from the words p and q of its operands.
-fn until_word(ms: &[u64], ln: &[u8], i: usize, idx: usize, p: u64, q: u64) -> u64
+// Block i becomes what member i, an until or a release, says of the next types: whether it is an until.
+fn step_block(ms: &[u64], ln: &[u8], tw: &mut [u64], w: usize, i: usize) -> bool
     requires { ⌜ Table (now ms) ⌝ }
     requires { ⌜ Leans (now ms) (now ln) ⌝ }
-    requires { ⌜ (i < length (now ms)) × (8 ≤ tagAt (now ms) i) ⌝ }
-    requires { ⌜ Answers (trueAt (now ms) (now ln) (leftAt (now ms) i)) idx p ⌝ }
-    requires { ⌜ Answers (trueAt (now ms) (now ln) (rightAt (now ms) i)) idx q ⌝ }
-    ensures { λ r. ⌜ Answers (trueAt (now (ms .entry)) (now (ln .entry)) i) idx r ⌝ }
+    requires { ⌜ (i < length (now ms)) × (i * w + w ≤ length (now tw)) × (8 ≤ tagAt (now ms) i) ⌝ }
+    ensures { λ r. ⌜ Stepped (now (ms .entry)) (now (ln .entry)) w i r (now (tw .entry)) (now (tw .exit)) ⌝ }
 {
-    let x = ms[i];
-    let g = tag(x);
-    let a = arg(x);
-    let e = some_mode(ms, ln, false, a, i, idx);
-    let n = some_mode(ms, ln, true, a, i, idx);
+    let g = tag(ms[i]);
     if g == 8 {
-        return q | (p & e);
+        next_block(ms, ln, tw, w, i, i, false);
+        return true;
     }
     if g == 11 {
-        return q & (p | !n);
+        next_block(ms, ln, tw, w, i, i, true);
+        return false;
     }
     if g == 9 {
-        let s = some_mode(ms, ln, false, a, find_plain(ms, 0), idx);
-        return q | (p & (s & !n));
+        next_block(ms, ln, tw, w, i, find_plain(ms, 0), false);
+        add_modes(ms, ln, tw, w, i, i, true);
+        return true;
     }
-    let s = some_mode(ms, ln, true, a, find_plain(ms, 1), idx);
-    q & (p | (!s | e))
+    next_block(ms, ln, tw, w, i, find_plain(ms, 1), true);
+    add_modes(ms, ln, tw, w, i, i, false);
+    false
 }
 
-// Answers idx of member i, from the words of the members before it.
-fn truth_word(ms: &[u64], ln: &[u8], tw: &[u64], w: usize, i: usize, idx: usize) -> u64
+// Block i becomes the types in which member i is true, where the blocks before it are right.
+fn truth_block(ms: &[u64], ln: &[u8], tw: &mut [u64], w: usize, i: usize)
     requires { ⌜ Table (now ms) ⌝ }
     requires { ⌜ Leans (now ms) (now ln) ⌝ }
-    requires { ⌜ (i < length (now ms)) × (length (now ms) * w ≤ length (now tw)) × (idx < w) ⌝ }
-    requires { ⌜ ((j : ℕ) → j < i → (l : ℕ) → l < w → Answers (trueAt (now ms) (now ln) j) l (getD (now tw) (j * w + l) 0)) ⌝ }
-    ensures { λ r. ⌜ Answers (trueAt (now (ms .entry)) (now (ln .entry)) i) idx r ⌝ }
+    requires { ⌜ (i < length (now ms)) × (i * w + w ≤ length (now tw)) ⌝ }
+    requires { ⌜ ((j : ℕ) → j < i → BlockIs (trueAt (now ms) (now ln) j) w j (now tw)) ⌝ }
+    ensures { λ _. ⌜ Redone w i (trueAt (now (ms .entry)) (now (ln .entry)) i) (now (tw .entry)) (now (tw .exit)) ⌝ }
 {
     let x = ms[i];
     let g = tag(x);
     if g < 4 {
-        return leaf_word(ms, ln, i, idx);
+        leaf_block(ms, ln, tw, w, i);
+        return;
     }
     let l = left(x);
-    if g == 6 {
-        return some_mode(ms, ln, false, arg(x), l, idx);
+    if g < 6 {
+        fill_block(tw, w, i, g == 5);
+        expand_block(tw, w, i, l, right(x), g == 5);
+        return;
     }
-    if g == 7 {
-        return !some_mode(ms, ln, true, arg(x), l, idx);
+    if g < 8 {
+        next_block(ms, ln, tw, w, i, l, g == 7);
+        return;
     }
-    let p = tw[l * w + idx];
-    let q = tw[right(x) * w + idx];
-    if g == 4 {
-        return p & q;
-    }
-    if g == 5 {
-        return p | q;
-    }
-    until_word(ms, ln, i, idx, p, q)
+    let until = step_block(ms, ln, tw, w, i);
+    expand_block(tw, w, i, l, right(x), until);
 }
 
 // Block i of tw becomes the types in which member i is true.
@@ -201,13 +205,7 @@ pub fn truth_words(ms: &[u64], ln: &[u8], tw: &mut [u64], w: usize)
 {
     let mut i = 0;
     while i < ms.len() {
-        let mut k = 0;
-        while k < w {
-            let x = truth_word(ms, ln, tw, w, i, k);
-            let at = i * w + k;
-            tw[at] = x;
-            k += 1;
-        }
+        truth_block(ms, ln, tw, w, i);
         i += 1;
     }
 }
