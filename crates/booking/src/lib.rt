@@ -10,7 +10,7 @@ ghost use Rattle.start.specs.Starts.{startList};
 ghost use Rattle.judge.specs.Judged.{Places};
 ghost use Rattle.booking.specs.Booked.{tablesBy};
 
-// Naming r's surviving types in the first w words of a store. The other store of its rounds is local.
+// Naming r's surviving types in the first w words of a store. The other store of its rounds is room to work in.
 fn fill_one(
     ms: &[u64],
     ln: &[u8],
@@ -22,13 +22,13 @@ fn fill_one(
     base: &[u64],
     r: u64,
     store: &mut [u64],
+    other: &mut [u64],
 )
     requires { ⌜ Ready (now ms) (now ln) w (now tw) (now cw) (now ns) ⌝ }
-    requires { ⌜ Places w (now ln) (now names) (now base) × ((w ≤ 4) × (w ≤ length (now store))) ⌝ }
+    requires { ⌜ Places w (now ln) (now names) (now base) × ((w ≤ 64) × ((w ≤ length (now store)) × (w ≤ length (now other)))) ⌝ }
     ensures { λ _. ⌜ now (store .exit) ≡ packed w (λ t. elem t (Survivors (now (ms .entry)) (now (ln .entry)) (startList w (now (base .entry)) (now (names .entry)) (length (now (ln .entry))) r))) (now (store .entry)) ⌝ }
 {
-    let mut other = [0u64; 4];
-    judge::fill_table(ms, ln, w, tw, cw, ns, names, base, r, store, &mut other);
+    judge::fill_table(ms, ln, w, tw, cw, ns, names, base, r, store, other);
 }
 
 // The tables of namings 0 to n - 1, naming r's w words from word r * w on; the rest of the store is as it was.
@@ -46,14 +46,27 @@ pub fn fill_book(
     store: &mut [u64],
 )
     requires { ⌜ Ready (now ms) (now ln) w (now tw) (now cw) (now ns) ⌝ }
-    requires { ⌜ Places w (now ln) (now names) (now base) × ((w ≤ 4) × (namings * w ≤ length (now store))) ⌝ }
+    requires { ⌜ Places w (now ln) (now names) (now base) × ((w ≤ 64) × (namings * w ≤ length (now store))) ⌝ }
     ensures { λ _. ⌜ now (store .exit) ≡ tablesBy w (λ r t. elem t (Survivors (now (ms .entry)) (now (ln .entry)) (startList w (now (base .entry)) (now (names .entry)) (length (now (ln .entry))) r))) namings ++ drop (namings * w) (now (store .entry)) ⌝ }
 {
+    let mut other = [0u64; 64];
     let mut n = naming::first(namings);
     while n.number < n.count {
         let r = n.number;
         let at = r as usize * w;
-        fill_one(ms, ln, w, tw, cw, ns, names, base, r, &mut store[at..]);
+        fill_one(
+            ms,
+            ln,
+            w,
+            tw,
+            cw,
+            ns,
+            names,
+            base,
+            r,
+            &mut store[at..],
+            &mut other,
+        );
         n = naming::advanced(n);
     }
 }

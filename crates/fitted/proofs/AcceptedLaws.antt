@@ -1,7 +1,7 @@
 -- What the set-up of a sheet that is not refused gives to every operation. Assumes nothing.
 use mathlib.Core.Path.{_≡_, sym, ap, ap₂, _∙_, subst}
 use mathlib.Core.List.{List, _++_}
-use Prim.Native.Nat.{ℕ, _*_, _/_, _^_, _≤_, _<_, max}
+use Prim.Native.Nat.{ℕ, _+_, _*_, _^_, _≤_, _<_}
 use native.Mathlib.Omega.{arith}
 use lib.ListN.{length, drop, length-map}
 use lib.Seq.{length-take-le}
@@ -17,51 +17,34 @@ use Rattle.tableau.specs.Tabled.{Tabled}
 use Rattle.truth.specs.Tables.{form, leanForms}
 use Rattle.tableau.specs.declared.table.Counts.{Counts}
 use Rattle.tableau.proofs.TableauLaws.{store-types, surviving-types, tabled}
-use Rattle.reader.specs.Reader.{refusalOf}
 use Rattle.prepare.specs.Prepared.{tableauIn}
-use Rattle.judge.specs.Judged.{Judged, Places, Room, goalsAt, verdictOf}
+use Rattle.judge.specs.Judged.{Judged, Places, goalsAt, verdictOf}
 use Rattle.judge.specs.declared.Verdict.{Verdict}
 use Rattle.wordset.specs.Words.{packed}
 use Rattle.ctl.specs.Lists.{elem}
 use Rattle.booking.specs.Booked.{tablesBy}
 use Rattle.booking.proofs.BookLaws.{tables-ext}
-use Rattle.frame.specs.Framed.{Framed}
-use Rattle.frame.specs.SetUp.{Accepts, SetUp, frameIn, globalsIn, leanIn, membersIn, namesIn, valuesIn}
+use Rattle.frame.specs.Framed.{Framed, Stores}
+use Rattle.frame.specs.SetUp.{Accepts, frameIn, globalsIn, leanIn, membersIn, namesIn, valuesIn}
 use Rattle.frame.specs.declared.Setup.{Setup}
+use Rattle.frame.proofs.Stores as Stores
+use Rattle.frame.proofs.Stores.{enough-words, large-stores, middle-stores, small-stores}
 use Rattle.frame.proofs.VerdictLaws.{framed-verdict}
+use Rattle.prepare.specs.Width.{wordsFor}
 use Rattle.fitted.specs.Accepted.{TabledIn, bookIn, verdictIn, wordsIn}
 
-pub four : 4 ≤ 4
-four = omega arith
-
--- w words of 64 hold p bits, and no more words than that takes
-words-only : (w p : ℕ) → 1 ≤ w → p ≤ w * 64 → w * 64 ≤ max 64 p → w ≡ max 1 (p / 64)
-words-only w p a b c = omega arith
-
-module _ {s : List ℕ} {u : Setup} (x : SetUp s u) (z : u .refusal ≡ 0) where
+module _ {s : List ℕ} {u : Setup} (x : Accepts s u) where
   abbrev S : Tableau
   S = tableauIn s
 
-  pub not-refused : refusalOf s ≡ 0
-  not-refused = sym (x .is) ∙ z
-
-  accepts : Accepts s u
-  accepts = x .accepts not-refused
-
   framed : Framed S (positive (goalOf (formulas s))) (membersIn u) (leanIn u) (globalsIn u) (namesIn u) (valuesIn u) (frameIn u)
-  framed = accepts .framed
+  framed = x .framed
 
-  pub members-within : u .count ≤ length (u .members)
-  members-within = accepts .members-within
+  pub few-words : u .words ≤ 64
+  few-words = Stores.few-words framed
 
-  pub lean-within : u .width ≤ length (u .lean)
-  lean-within = accepts .lean-within
-
-  pub names-within : u .names ≤ length (u .named)
-  names-within = accepts .names-within
-
-  pub few-words : u .words ≤ 4
-  few-words = framed .few-words .1
+  enough : 2 ^ length (leanIn u) ≤ u .words * 64
+  enough = enough-words framed
 
   pub namings-are : u .namings ≡ namings S
   namings-are = framed .namings-are
@@ -71,44 +54,51 @@ module _ {s : List ℕ} {u : Setup} (x : SetUp s u) (z : u .refusal ≡ 0) where
   lean-length = ap length (framed .matches .lean) ∙ length-map (leanIn u) (form (membersIn u))
 
   pub width-is : u .width ≡ length (S .ln)
-  width-is = sym (length-take-le (u .width) (u .lean) lean-within) ∙ sym lean-length
+  width-is = sym (length-take-le (u .width) (u .lean) (x .lean-within)) ∙ sym lean-length
 
   pub short-lean : u .width ≤ 60
   short-lean = let e = width-is in let l = lean-length in let h = framed .sound .leans .short in omega arith
 
   pub words-are : u .words ≡ wordsIn s
   unfolding wordsIn
-  words-are =
-      subst (λ n. u .words ≡ max 1 (2 ^ n / 64)) (sym lean-length)
-      (words-only (u .words) (2 ^ length (leanIn u)) (framed .few-words .0) (framed .enough) (framed .no-more))
+  words-are = framed .words-are ∙ ap wordsFor (sym lean-length)
 
   pub types-within : 2 ^ length (S .ln) ≤ wordsIn s * 64
-  types-within = subst (λ w. 2 ^ length (S .ln) ≤ w * 64) words-are (subst (λ n. 2 ^ n ≤ u .words * 64) (sym lean-length) (framed .enough))
+  types-within = subst (λ w. 2 ^ length (S .ln) ≤ w * 64) words-are (subst (λ n. 2 ^ n ≤ u .words * 64) (sym lean-length) enough)
 
   -- what a store holds that has a naming's surviving types in its first words
   pub store-lists : (r : ℕ) (d d′ : List ℕ) → u .words ≤ length d → d′ ≡ packed (wordsIn s) (λ t. elem t (survivingTypes S r)) d → listOf (u .words) d′ ≡ survivingTypes S r
   store-lists r d d′ h e =
-      store-types S (u .words) (subst (λ n. 2 ^ n ≤ u .words * 64) (sym lean-length) (framed .enough)) r d d′ h
+      store-types S (u .words) (subst (λ n. 2 ^ n ≤ u .words * 64) (sym lean-length) enough) r d d′ h
       (e ∙ ap (λ w. packed w (λ t. elem t (survivingTypes S r)) d) (sym words-are))
 
-  pub few-namings : u .namings ≤ 16384
+  pub few-namings : u .namings ≤ 2 ^ 22
   few-namings = framed .few-namings
 
   -- ---- the words that are computed once
 
-  -- what filling them asks
-  pub words-asked : (t c n b : ℕ) → t ≡ 324 → c ≡ 272 → n ≡ 80 → b ≡ 8 → ((q : List ℕ) × Accepts q u) × ((324 ≤ t) × (272 ≤ c) × (80 ≤ n) × (8 ≤ b))
-  words-asked t c n b e h i j = ((s, accepts), (omega arith, omega arith, omega arith, omega arith))
+  -- what filling them asks of stores of three sizes
+  few-members : u .count ≤ 136
+  few-members = let a = framed .sound .few in let b = length-take-le (u .count) (u .members) (x .members-within) in omega arith
 
-  module _ {tw cw ns base : List ℕ} (f : Ready (membersIn u) (leanIn u) (u .words) tw cw ns × Based (u .words) (inBase (membersIn u) (leanIn u) (globalsIn u) (valuesIn u)) (namesIn u) base) (l : length base ≡ 8) where
+  pub small-asked : {tw cw ns base : List ℕ} → (u .count ≤ 72) × (u .words ≤ 4) → length tw ≡ 324 → length cw ≡ 272 → length ns ≡ 80 → length base ≡ 8 → Stores (u .count) (u .words) tw cw ns base
+  small-asked {tw} {cw} {ns} {base} h = small-stores tw cw ns base (h .0) (h .1)
+
+  pub middle-asked : {tw cw ns base : List ℕ} → u .words ≤ 16 → length tw ≡ 2320 → length cw ≡ 1040 → length ns ≡ 144 → length base ≡ 32 → Stores (u .count) (u .words) tw cw ns base
+  middle-asked {tw} {cw} {ns} {base} h = middle-stores tw cw ns base few-members h
+
+  pub large-asked : {tw cw ns base : List ℕ} → length tw ≡ 9280 → length cw ≡ 4112 → length ns ≡ 144 → length base ≡ 128 → Stores (u .count) (u .words) tw cw ns base
+  large-asked {tw} {cw} {ns} {base} = large-stores tw cw ns base few-members few-words
+
+  module _ {tw cw ns base : List ℕ} (f : Ready (membersIn u) (leanIn u) (u .words) tw cw ns × Based (u .words) (inBase (membersIn u) (leanIn u) (globalsIn u) (valuesIn u)) (namesIn u) base) (l : u .words + u .words ≤ length base) where
     places : Places (u .words) (leanIn u) (namesIn u) base
-    places = let w = few-words in record { named = framed .named; enough = framed .enough; base-room = omega arith }
+    places = record { named = framed .named; enough = enough; base-room = l }
 
     -- ---- one naming's table
 
-    pub fill-asked : (m k : ℕ) → 4 ≤ m → 4 ≤ k
-        → Ready (membersIn u) (leanIn u) (u .words) tw cw ns × (Places (u .words) (leanIn u) (namesIn u) base × ((u .words ≤ 4) × ((u .words ≤ m) × (u .words ≤ k))))
-    fill-asked m k a b = let w = few-words in (f .0, (places, (w, (omega arith, omega arith))))
+    pub fill-asked : {m k : ℕ} → (u .words ≤ m) × (u .words ≤ k)
+        → Ready (membersIn u) (leanIn u) (u .words) tw cw ns × (Places (u .words) (leanIn u) (namesIn u) base × ((u .words ≤ 64) × ((u .words ≤ m) × (u .words ≤ k))))
+    fill-asked h = (f .0, (places, (few-words, h)))
 
     module _ (r : ℕ) where
       abbrev start : List ℕ
@@ -118,15 +108,15 @@ module _ {s : List ℕ} {u : Setup} (x : SetUp s u) (z : u .refusal ≡ 0) where
           → TabledIn s r first second first′ second′ c
       table-filled {first} {second} {first′} {second′} {c} t =
           subst (λ w. Tabled (startTypes S r) (survivingTypes S r) (roundsOf S r) w first second first′ second′ c) words-are
-          (tabled (framed .matches) (u .words) base (f .1) (framed .enough) r t)
+          (tabled (framed .matches) (u .words) base (f .1) enough r t)
 
       pub survivors-are : Survivors (membersIn u) (leanIn u) start ≡ survivingTypes S r
-      survivors-are = surviving-types (framed .matches) (u .words) base (f .1) (framed .enough) r
+      survivors-are = surviving-types (framed .matches) (u .words) base (f .1) enough r
 
     -- ---- the tables of all namings
 
     pub book-asked : (k : ℕ) → u .namings * u .words ≤ k
-        → Ready (membersIn u) (leanIn u) (u .words) tw cw ns × (Places (u .words) (leanIn u) (namesIn u) base × ((u .words ≤ 4) × (u .namings * u .words ≤ k)))
+        → Ready (membersIn u) (leanIn u) (u .words) tw cw ns × (Places (u .words) (leanIn u) (namesIn u) base × ((u .words ≤ 64) × (u .namings * u .words ≤ k)))
     book-asked k h = (f .0, (places, (few-words, h)))
 
     pub book-filled : (d : List ℕ) {d′ : List ℕ} → d′ ≡ tablesBy (u .words) (λ r t. elem t (Survivors (membersIn u) (leanIn u) (startList (u .words) base (namesIn u) (length (leanIn u)) r))) (u .namings) ++ drop (u .namings * u .words) d → d′ ≡ bookIn s d
@@ -136,11 +126,8 @@ module _ {s : List ℕ} {u : Setup} (x : SetUp s u) (z : u .refusal ≡ 0) where
 
     -- ---- judging
 
-    pub judge-asked : (first second among todo found rest : List ℕ) → length first ≡ 4 → length second ≡ 4 → length among ≡ 4 → length todo ≡ 4 → length found ≡ 4 → length rest ≡ 4
-        → Ready (membersIn u) (leanIn u) (u .words) tw cw ns × (Room (u .words) first second among todo found rest × (Places (u .words) (leanIn u) (namesIn u) base × (u .goal < length (membersIn u))))
-    judge-asked first second among todo found rest a b c d e g =
-        let w = few-words in
-        (f .0, (record { first-room = omega arith; second-room = omega arith; copy-room = omega arith; todo-room = omega arith; v-room = omega arith; rest-room = omega arith }, (places, framed .goal-inside)))
+    pub judge-asked : Ready (membersIn u) (leanIn u) (u .words) tw cw ns × (Places (u .words) (leanIn u) (namesIn u) base × ((u .words ≤ 64) × (u .goal < length (membersIn u))))
+    judge-asked = (f .0, (places, (few-words, framed .goal-inside)))
 
     pub judged : {v : Verdict} → Judged (goalsAt (membersIn u) (leanIn u) (u .words) base (namesIn u) (u .goal)) (u .namings) v → verdictIn s ≡ verdictOf v
     unfolding verdictIn

@@ -1,6 +1,6 @@
 -- What a sheet that is not refused has: its words, its namings, its surviving types, and its verdict; and what a table, a book and a list of it hold. Assumes nothing.
 use mathlib.Core.List.{List, _++_}
-use Prim.Native.Nat.{ℕ, _*_, _/_, _^_, max}
+use Prim.Native.Nat.{ℕ, _*_}
 use lib.ListN.{length, drop}
 use Rattle.ctl.specs.Lists.{elem}
 use Rattle.ctl.specs.Sorting.{sort}
@@ -14,11 +14,13 @@ use Rattle.sheet.specs.Reading.{formulas, goalOf}
 use Rattle.tableau.specs.Tabled.{Tabled}
 use Rattle.tableau.specs.declared.table.Counts.{Counts}
 use Rattle.prepare.specs.Prepared.{tableauIn}
+use Rattle.prepare.specs.Width.{wordsFor}
 use Rattle.booking.specs.Booked.{tablesBy}
 
--- document 01's W: how many words hold one bit for each type, 1, 2 or 4
+-- document 01's W of the sheet: how many words hold one bit for each of its types
 unfoldable pub wordsIn : List ℕ → ℕ
-wordsIn s = max 1 (2 ^ length (tableauIn s .ln) / 64)
+unfolding wordsFor
+wordsIn s = wordsFor (length (tableauIn s .ln))
 
 abbrev pub namingsIn : List ℕ → ℕ
 namingsIn s = namings (tableauIn s)

@@ -3,33 +3,66 @@ use frame::Setup;
 ghost use mathlib.Core.Path.{_≡_};
 ghost use Prim.Native.Nat.{_*_, _≤_};
 ghost use lib.ListN.{length};
-ghost use Rattle.frame.specs.SetUp.{SetUp};
+ghost use Rattle.frame.specs.Framed.{Stores};
+ghost use Rattle.frame.specs.SetUp.{Accepts};
 ghost use Rattle.fitted.specs.Accepted.{bookIn};
 
-// The surviving types under every naming of a sheet that is not refused, one after the other in a store.
-pub fn fitted_book(sheet: &[u8], u: Setup, store: &mut [u64])
-    requires { ⌜ SetUp (now sheet) u ⌝ }
-    requires { ⌜ (u .refusal ≡ 0) × (u .namings * u .words ≤ length (now store)) ⌝ }
+// The surviving types under every naming of a sheet that is not refused, one after the other in a store. The last four stores are room for what depends on the sheet alone.
+fn book_in(
+    sheet: &[u8],
+    u: Setup,
+    store: &mut [u64],
+    tw: &mut [u64],
+    cw: &mut [u64],
+    ns: &mut [u64],
+    base: &mut [u64],
+)
+    requires { ⌜ Accepts (now sheet) u ⌝ }
+    requires { ⌜ u .namings * u .words ≤ length (now store) ⌝ }
+    requires { ⌜ Stores (u .count) (u .words) (now tw) (now cw) (now ns) (now base) ⌝ }
     ensures { λ _. ⌜ now (store .exit) ≡ bookIn (now (sheet .entry)) (now (store .entry)) ⌝ }
 {
     let members = u.members;
     let lean = u.lean;
     let named = u.named;
-    let mut tw = [0u64; 324];
-    let mut cw = [0u64; 272];
-    let mut ns = [0u64; 80];
-    let mut base = [0u64; 8];
-    let n = frame::fill(u, &mut tw, &mut cw, &mut ns, &mut base);
+    let n = frame::fill(u, tw, cw, ns, base);
     booking::fill_book(
         &members[..u.count],
         &lean[..u.width],
         u.words,
-        &tw,
-        &cw,
+        tw,
+        cw,
         &ns[..n],
         &named[..u.names],
-        &base,
+        base,
         u.namings,
         store,
     );
+}
+
+// The same, in room that has the sheet's size.
+pub fn fitted_book(sheet: &[u8], u: Setup, store: &mut [u64])
+    requires { ⌜ Accepts (now sheet) u ⌝ }
+    requires { ⌜ u .namings * u .words ≤ length (now store) ⌝ }
+    ensures { λ _. ⌜ now (store .exit) ≡ bookIn (now (sheet .entry)) (now (store .entry)) ⌝ }
+{
+    if frame::is_small(u.count, u.words) {
+        let mut tw = [0u64; 324];
+        let mut cw = [0u64; 272];
+        let mut ns = [0u64; 80];
+        let mut base = [0u64; 8];
+        return book_in(sheet, u, store, &mut tw, &mut cw, &mut ns, &mut base);
+    }
+    if u.words <= 16 {
+        let mut tw = [0u64; 2320];
+        let mut cw = [0u64; 1040];
+        let mut ns = [0u64; 144];
+        let mut base = [0u64; 32];
+        return book_in(sheet, u, store, &mut tw, &mut cw, &mut ns, &mut base);
+    }
+    let mut tw = [0u64; 9280];
+    let mut cw = [0u64; 4112];
+    let mut ns = [0u64; 144];
+    let mut base = [0u64; 128];
+    book_in(sheet, u, store, &mut tw, &mut cw, &mut ns, &mut base);
 }

@@ -34,11 +34,11 @@ module _ {places : List ℕ} {n : ℕ} {to₀ : List ℕ} where
 
 -- ---- the number of namings
 
-pub few-bits : (names width : ℕ) → names ≤ 2 → width ≤ 8 → (width - 1) * names ≤ 14
+pub few-bits : (names width : ℕ) → names ≤ 2 → width ≤ 12 → (width - 1) * names ≤ 22
 few-bits zero width h k = omega arith
 few-bits (suc zero) width h k = omega arith
 few-bits (suc (suc zero)) width h k = omega arith
 few-bits (suc (suc (suc n))) width h k = absurd (omega arith)
 
-pub shift-is : (n : ℕ) → n ≤ 16 → (1 * 2 ^ n) % 2 ^ 64 ≡ 2 ^ n
+pub shift-is : (n : ℕ) → n ≤ 22 → (1 * 2 ^ n) % 2 ^ 64 ≡ 2 ^ n
 shift-is n h = shl-one n (omega arith)

@@ -17,7 +17,7 @@ use Rattle.reader.specs.declared.Reading.{Reading}
 use Rattle.reader.specs.Reader.{Says}
 use Rattle.prepare.specs.Prepared.{kindsOf, leanOf, tableOf, tableauIn}
 use Rattle.prepare.specs.Places.{placesBy, Sought, Found}
-use Rattle.prepare.specs.Width.{WordsFor}
+use Rattle.prepare.specs.Width.{wordsFor}
 use Rattle.prepare.proofs.Bridge.{formulas-some, global-inside, globals-map, goal, goal-inside, lean-length, leans, placed, table, table-length, tableau-lean}
 use Rattle.prepare.proofs.PlaceLaws.{held}
 use Rattle.prepare.proofs.PlaceBridge.{names-are, values-are, found-matches, sought}
@@ -88,14 +88,14 @@ module _ (s : List ℕ) (r : Reading) (x : Says s r) (z : readRefusal s ≡ 0) w
         globals-map s r x z globals (omega arith)
         (λ j h. ap (λ l. getD l j 0) e ∙ getD-take (length ps - 1) ps j 0 (omega arith) ∙ place-is j (omega arith))
 
-  module _ (narrow : length ln ≤ 8) {names values names′ values′ : List ℕ} {k v : ℕ} (y : Parts ms ln ks names values names′ values′ k v) where
+  module _ (narrow : length ln ≤ 12) {names values names′ values′ : List ℕ} {k v : ℕ} (y : Parts ms ln ks names values names′ values′ k v) where
     name-count : k ≡ length (namePlaces S)
     name-count = y .names-found .many ∙ ap length (names-are s r x z)
 
     value-count : v ≡ length (valuePlaces S)
     value-count = y .values-found .many ∙ ap length (values-are s r x z)
 
-    parts-few : (k ≤ 2) × (v ≤ 8)
+    parts-few : (k ≤ 2) × (v ≤ 12)
     parts-few =
         let a = name-count in
         let b = value-count in
@@ -133,7 +133,7 @@ module _ (s : List ℕ) (r : Reading) (x : Says s r) (z : readRefusal s ≡ 0) w
     values-low : (i : ℕ) → i < length (take v values′) → getD (take v values′) i 0 ≤ 60
     values-low = subst (λ l. (i : ℕ) → i < length l → getD l i 0 ≤ 60) (sym values-held) (λ i h. (let e = tableau-width in let b = value-below s (getD (valuePlaces S) i 0) (getD-in 0 (valuePlaces S) i h) in omega arith))
 
-    module _ (many : length ps ≡ r .formulas) (small : length ms ≤ 72) {w n : ℕ} (globals′ : List ℕ) (wide : WordsFor (length ln) w) (eg : take (length ps - 1) globals′ ≡ take (length ps - 1) ps) (en : n ≡ 2 ^ ((length ln - 1) * k)) where
+    module _ (many : length ps ≡ r .formulas) (small : length ms ≤ 136) {w n : ℕ} (globals′ : List ℕ) (wide : w ≡ wordsFor (length ln)) (eg : take (length ps - 1) globals′ ≡ take (length ps - 1) ps) (en : n ≡ 2 ^ ((length ln - 1) * k)) where
       abbrev globals : List ℕ
       globals = take (length ps - 1) globals′
 
@@ -152,13 +152,11 @@ module _ (s : List ℕ) (r : Reading) (x : Says s r) (z : readRefusal s ≡ 0) w
       framed-read few = record {
         sound = read-sound;
         matches = found-matches s r x z (held (y .names-found)) (held (y .values-found)) globals (before-map many globals eg);
-        enough = wide .enough;
-        few-words = (wide .some, wide .few);
-        no-more = wide .tight;
+        words-are = wide;
         goal-inside = last-inside many;
         goal-is = last-form many;
         namings-are = en ∙ namings-is;
-        few-namings = subst (λ m. m ≤ 16384) (sym en) (pow-mono (few-bits k (length ln) (parts-few .0) narrow));
+        few-namings = subst (λ m. m ≤ 2 ^ 22) (sym en) (pow-mono (few-bits k (length ln) (parts-few .0) narrow));
         few-globals = omega arith;
         few-places = parts-few;
         named = found-named;
@@ -190,28 +188,28 @@ module _ {ms ln kinds places s : List ℕ} {r : Reading} (g : Given ms ln kinds 
   given-before : (j : ℕ) → j < length places - 1 → getD places j 0 < length ms
   given-before = given-by (λ m l k p. (j : ℕ) → j < length p - 1 → getD p j 0 < length m) (before-inside s r (g .says) (g .read) given-many)
 
-  given-few : length ln ≤ 8 → {names values names′ values′ : List ℕ} {k v : ℕ} → Parts ms ln kinds names values names′ values′ k v → (k ≤ 2) × (0 < k → 0 < length ln)
+  given-few : length ln ≤ 12 → {names values names′ values′ : List ℕ} {k v : ℕ} → Parts ms ln kinds names values names′ values′ k v → (k ≤ 2) × (0 < k → 0 < length ln)
   given-few h {names} {values} {names′} {values′} {k} {v} =
-      given-by (λ a b c p. length b ≤ 8 → Parts a b c names values names′ values′ k v → (k ≤ 2) × (0 < k → 0 < length b)) (λ n y. (parts-few s r (g .says) (g .read) n y .0, names-some s r (g .says) (g .read) n y)) h
+      given-by (λ a b c p. length b ≤ 12 → Parts a b c names values names′ values′ k v → (k ≤ 2) × (0 < k → 0 < length b)) (λ n y. (parts-few s r (g .says) (g .read) n y .0, names-some s r (g .says) (g .read) n y)) h
 
-  given-sought : (store : List ℕ) → length ln ≤ 8 → 8 ≤ length store → Sought ms ln store
+  given-sought : (store : List ℕ) → length ln ≤ 12 → 12 ≤ length store → Sought ms ln store
   given-sought store h i = let a = given-width in given-by (λ m l k p. Sought m l store) (sought s r (g .says) store (omega arith) (omega arith))
 
-  pub given-framed : length ln ≤ 8 → length ms ≤ 72 → r .formulas ≤ 5 → {w n : ℕ} (globals′ : List ℕ) {names values names′ values′ : List ℕ} {k v : ℕ} → WordsFor (length ln) w
+  pub given-framed : length ln ≤ 12 → length ms ≤ 136 → r .formulas ≤ 5 → {w n : ℕ} (globals′ : List ℕ) {names values names′ values′ : List ℕ} {k v : ℕ} → w ≡ wordsFor (length ln)
       → take (length places - 1) globals′ ≡ take (length places - 1) places → Parts ms ln kinds names values names′ values′ k v → n ≡ 2 ^ ((length ln - 1) * k)
       → Framed (tableauIn s) (positive (goalOf (formulas s))) ms ln (take (length places - 1) globals′) (take k names′) (take v values′) (record { words = w; globals = length places - 1; names = k; values = v; goal = getD places (length places - 1) 0; namings = n })
   given-framed h i few {w} {n} globals′ {names} {values} {names′} {values′} {k} {v} wide eg y en =
-      given-by (λ a e c p. length e ≤ 8 → length a ≤ 72 → WordsFor (length e) w → take (length p - 1) globals′ ≡ take (length p - 1) p → Parts a e c names values names′ values′ k v → n ≡ 2 ^ ((length e - 1) * k)
+      given-by (λ a e c p. length e ≤ 12 → length a ≤ 136 → w ≡ wordsFor (length e) → take (length p - 1) globals′ ≡ take (length p - 1) p → Parts a e c names values names′ values′ k v → n ≡ 2 ^ ((length e - 1) * k)
       → Framed (tableauIn s) (positive (goalOf (formulas s))) a e (take (length p - 1) globals′) (take k names′) (take v values′) (record { words = w; globals = length p - 1; names = k; values = v; goal = getD p (length p - 1) 0; namings = n }))
       (λ a b c e f n. framed-read s r (g .says) (g .read) a f given-many b globals′ c e n few) h i wide eg y en
 
 -- ---- call by call
 
 module _ {ms ln kinds places globals names values : List ℕ} (x : Frames ms ln kinds places globals names values) where
-  pub frame-narrow : length ln ≤ 8
+  pub frame-narrow : length ln ≤ 12
   frame-narrow = let a = given-width (x .given) in let b = x .narrow in omega arith
 
-  frame-small : length ms ≤ 72
+  frame-small : length ms ≤ 136
   frame-small = let a = given-count (x .given) in let b = x .small in omega arith
 
   pub frame-any : 1 ≤ length places
@@ -237,9 +235,9 @@ module _ {ms ln kinds places globals names values : List ℕ} (x : Frames ms ln 
     parts : Parts ms ln kinds names values names′ values′ k v
     parts = record { names-found = a; values-found = b }
 
-    pub count-asks : (k ≤ 2) × ((length ln ≤ 8) × (0 < k → 0 < length ln))
+    pub count-asks : (k ≤ 2) × ((length ln ≤ 12) × (0 < k → 0 < length ln))
     count-asks = let f = given-few (x .given) frame-narrow parts in (f .0, (frame-narrow, f .1))
 
-    pub frame-is : {w n : ℕ} (globals′ : List ℕ) → WordsFor (length ln) w → take (length places - 1) globals′ ≡ take (length places - 1) places → n ≡ 2 ^ ((length ln - 1) * k)
+    pub frame-is : {w n : ℕ} (globals′ : List ℕ) → w ≡ wordsFor (length ln) → take (length places - 1) globals′ ≡ take (length places - 1) places → n ≡ 2 ^ ((length ln - 1) * k)
         → FramedAs ms ln kinds places globals′ names′ values′ (record { words = w; globals = length places - 1; names = k; values = v; goal = getD places (length places - 1) 0; namings = n })
     frame-is globals′ wide eg en = λ s r g. given-framed g frame-narrow frame-small (let a = frame-few in let b = g .many in omega arith) globals′ wide eg parts en

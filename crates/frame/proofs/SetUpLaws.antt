@@ -17,28 +17,30 @@ use Rattle.sheet.specs.Refusal.{readRefusal}
 use Rattle.sheet.specs.Reading.{formulas, valuesIn}
 use Rattle.sheet.proofs.SizeLaws.{formulas-many, texts-five}
 use Rattle.reader.specs.declared.Reading.{Reading}
-use Rattle.reader.specs.Reader.{ReadIs, Says, members, numberOf, places, refusalOf}
-use Rattle.reader.proofs.NumberLaws.{within-nine, within-ten, within-zero}
+use Rattle.reader.specs.Reader.{Says, members, numberOf}
+use Rattle.limits.specs.declared.Limits.{Limits}
+use Rattle.limits.specs.Limits.{ReadUnder, refusalUnder}
+use Rattle.limits.proofs.LimitLaws.{accepted-closure, accepted-lean, accepted-read, accepted-right}
 use Rattle.reader.proofs.ReadLaws.{words-within, take-within}
 use Rattle.prepare.specs.Prepared.{kindsOf, leanOf, tableOf}
 use Rattle.frame.specs.Framed.{FramedAs, Frames, Given}
-use Rattle.frame.specs.SetUp.{SetUp, nothingBy}
+use Rattle.frame.specs.SetUp.{Accepts, SetUp, nothingBy}
 use Rattle.frame.specs.declared.Frame.{Frame}
 use Rattle.frame.specs.declared.Setup.{Setup}
 
-module _ {s : List ℕ} {r : Reading} (x : ReadIs 64 8 s r) {k : ℕ} (e : k ≡ numberOf (r .refusal)) where
-  pub setup-refused : {u : Setup} → (k ≡ 0 → ⊥) → u ≡ nothingBy k → SetUp s u
+module _ {l : Limits} {s : List ℕ} {r : Reading} (x : ReadUnder l s r) {k : ℕ} (e : k ≡ numberOf (r .refusal)) where
+  pub setup-refused : {u : Setup} → (k ≡ 0 → ⊥) → u ≡ nothingBy k → SetUp l s u
   setup-refused h i = record { is = ap (λ q. q .refusal) i ∙ e ∙ x .is; accepts = λ z. absurd (h (e ∙ x .is ∙ z)) }
 
   module _ (none : k ≡ 0) where
-    pub zero-is : refusalOf s ≡ 0
+    pub zero-is : refusalUnder l s ≡ 0
     zero-is = sym (x .is) ∙ sym e ∙ none
 
     pub says : Says s r
     says = x .accepted zero-is
 
     pub right : readRefusal s ≡ 0
-    right = within-zero 64 8 s zero-is
+    right = accepted-read l s zero-is
 
     pub count-within : r .count ≤ length (r .members)
     count-within = says .tabled .room
@@ -58,27 +60,17 @@ module _ {s : List ℕ} {r : Reading} (x : ReadIs 64 8 s r) {k : ℕ} (e : k ≡
     pub formulas-within : length (r .places) ≡ 5 → r .formulas ≤ length (r .places)
     formulas-within a = let b = formulas-five in omega arith
 
-    members-few : length (members s) ≤ 64
-    members-few = go (lt-or-le 64 (length (members s)))
-      where
-        go : (64 < length (members s)) ⊎ (length (members s) ≤ 64) → length (members s) ≤ 64
-        go (inl h) = let z : _≡_ {A = ℕ} 0 9 = sym zero-is ∙ within-nine 64 8 s right h in absurd (omega arith)
-        go (inr h) = h
-
-    lean-few : r .width ≤ 8
-    lean-few = go (lt-or-le 8 (length (places s)))
-      where
-        go : (8 < length (places s)) ⊎ (length (places s) ≤ 8) → r .width ≤ 8
-        go (inl h) = let z : _≡_ {A = ℕ} 0 10 = sym zero-is ∙ within-ten 64 8 s right members-few h in absurd (omega arith)
-        go (inr h) = let a = says .lean-many in omega arith
+    lean-few : r .width ≤ 12
+    lean-few = let a = says .lean-many in let b = accepted-lean l s zero-is in let c = accepted-right l s zero-is .lean-most in omega arith
 
     given : length (r .places) ≡ 5 → Given (tableOf r) (leanOf r) (kindsOf r) (take (r .formulas) (r .places)) s r
     given a = record { says = says; read = right; table-is = refl; lean-is = refl; kinds-are = refl; places-are = refl; many = length-take-le (r .formulas) (r .places) (formulas-within a) }
 
     -- the closure's members and the values that do not occur
-    table-few : r .count ≤ 72
+    table-few : r .count ≤ 136
     table-few =
-        let a = members-few in
+        let a = accepted-closure l s zero-is in
+        let g = accepted-right l s zero-is .closure-most in
         let b = says .tabled .count in
         let c = with-length (members s) (valuesIn s) in
         let d = kept-few (λ k. eqb (getD (kinds s) k 0) 4) (length (kinds s)) in
@@ -86,7 +78,7 @@ module _ {s : List ℕ} {r : Reading} (x : ReadIs 64 8 s r) {k : ℕ} (e : k ≡
         let f = sheet-spellings s .few in
         omega arith
 
-    pub frame-asked : {globals names values : List ℕ} → length (r .places) ≡ 5 → length globals ≡ 8 → length names ≡ 8 → length values ≡ 8
+    pub frame-asked : {globals names values : List ℕ} → length (r .places) ≡ 5 → length globals ≡ 8 → length names ≡ 12 → length values ≡ 12
         → Frames (tableOf r) (leanOf r) (kindsOf r) (take (r .formulas) (r .places)) globals names values
     frame-asked a b c d = record {
       sheet = s;
@@ -101,8 +93,8 @@ module _ {s : List ℕ} {r : Reading} (x : ReadIs 64 8 s r) {k : ℕ} (e : k ≡
     }
 
     pub setup-accepted : {globals′ names′ values′ : List ℕ} {f : Frame} → length (r .places) ≡ 5
-        → FramedAs (tableOf r) (leanOf r) (kindsOf r) (take (r .formulas) (r .places)) globals′ names′ values′ f → length globals′ ≡ 8 → length names′ ≡ 8 → length values′ ≡ 8
-        → SetUp s (record {
+        → FramedAs (tableOf r) (leanOf r) (kindsOf r) (take (r .formulas) (r .places)) globals′ names′ values′ f → length globals′ ≡ 8 → length names′ ≡ 12 → length values′ ≡ 12
+        → SetUp l s (record {
           refusal = 0;
           count = r .count;
           members = r .members;
@@ -132,3 +124,11 @@ module _ {s : List ℕ} {r : Reading} (x : ReadIs 64 8 s r) {k : ℕ} (e : k ≡
             values-within = omega arith;
           });
     }
+
+-- the set-up of a sheet that is not refused
+module _ {l : Limits} {s : List ℕ} {u : Setup} (x : SetUp l s u) (z : u .refusal ≡ 0) where
+  pub not-refused : refusalUnder l s ≡ 0
+  not-refused = sym (x .is) ∙ z
+
+  pub accepts-by : Accepts s u
+  accepts-by = x .accepts not-refused

@@ -1,28 +1,60 @@
 -- What the words of an accepted sheet are, and what they ask of the stores that are lent to them. Assumes nothing.
+use mathlib.Core.Path.{_≡_, sym, subst}
 use mathlib.Core.List.{List}
-use Prim.Native.Nat.{ℕ, _+_, _*_, _≤_}
-use native.Mathlib.Nat.{mul-le-mul-right}
+use Prim.Native.Nat.{ℕ, _+_, _*_, _^_, _≤_}
+use native.Mathlib.Nat.{mul-le-mul}
 use native.Mathlib.Omega.{arith}
 use lib.ListN.{length}
+use lib.Seq.{length-take-le}
+use Rattle.ctl.specs.Formula.{Form}
+use Rattle.ctl.specs.Tableau.{Tableau}
 use Rattle.tableau.specs.Families.{Ready}
 use Rattle.conditions.specs.Conditions.{Conditions}
 use Rattle.needs.specs.Needs.{Fields, Listed}
 use Rattle.start.specs.Starts.{Named}
 use Rattle.truth.specs.Truths.{Truths}
-use Rattle.frame.specs.Framed.{Sound}
+use Rattle.prepare.proofs.WidthLaws.{words-enough, words-few}
+use Rattle.frame.specs.Framed.{Framed, Sound, Stores}
+use Rattle.frame.specs.declared.Frame.{Frame}
 use Rattle.frame.specs.SetUp.{Accepts, globalsIn, leanIn, membersIn, namesIn, valuesIn}
 use Rattle.frame.specs.declared.Setup.{Setup}
 
+-- stores for so many members over so many words are enough for fewer
+sized : (n w most wide : ℕ) (tw cw ns base : List ℕ) → n ≤ most → w ≤ wide → (most + 9) * wide ≤ length tw → wide * 64 + 16 ≤ length cw → most + 8 ≤ length ns → wide + wide ≤ length base → Stores n w tw cw ns base
+sized n w most wide tw cw ns base h k a b c d =
+    let p : (n + 9) * w ≤ (most + 9) * wide = mul-le-mul (let q : n + 9 ≤ most + 9 = omega arith in q) k in
+    record { blocks = omega arith; rows = omega arith; needs = omega arith; families = omega arith }
+
 -- what the elimination goes by
-pub ready-by : {ms ln globals values tw cw ns : List ℕ} {w : ℕ} → Sound ms ln globals values → w ≤ 4 → Truths ms ln w tw → Fields ms ln w tw → Conditions ms ln w cw → Listed ms ns → Ready ms ln w tw cw ns
+pub ready-by : {ms ln globals values tw cw ns : List ℕ} {w : ℕ} → Sound ms ln globals values → w ≤ 64 → Truths ms ln w tw → Fields ms ln w tw → Conditions ms ln w cw → Listed ms ns → Ready ms ln w tw cw ns
 ready-by s h t f c n = record { table = s .table; few = (let m = s .few in omega arith); small = omega arith; truths = t; fields = f; links = c; listed = n }
 
--- the blocks of the members and those of the fields have room
-pub blocks-room : (n w t : ℕ) → n ≤ 72 → w ≤ 4 → 324 ≤ t → (n + 9) * w ≤ t
-blocks-room n w t h k l =
-    let a = mul-le-mul-right w (let b : n + 9 ≤ 81 = omega arith in b) in
-    omega arith
+-- there are enough words for the types, and few
+module _ {S : Tableau} {goal : Form} {ms ln globals names values : List ℕ} {f : Frame} (x : Framed S goal ms ln globals names values f) where
+  pub enough-words : 2 ^ length ln ≤ f .words * 64
+  enough-words = subst (λ w. 2 ^ length ln ≤ w * 64) (sym (x .words-are)) (words-enough (length ln))
 
-pub fill-asks : {s : List ℕ} {u : Setup} → Accepts s u → (t c n b : ℕ) → 324 ≤ t → 272 ≤ c → 80 ≤ n → 8 ≤ b
-    → (Sound (membersIn u) (leanIn u) (globalsIn u) (valuesIn u) × Named (namesIn u) (length (leanIn u))) × ((u .words ≤ 4) × (324 ≤ t) × (272 ≤ c) × (80 ≤ n) × (u .words + u .words ≤ b))
-fill-asks a t c n b e h i j = let f = a .framed in let w = f .few-words .1 in ((f .sound, f .named), (w, e, h, i, omega arith))
+  pub few-words : f .words ≤ 64
+  few-words = subst (λ w. w ≤ 64) (sym (x .words-are)) (words-few (length ln) (x .sound .narrow))
+
+module _ {s : List ℕ} {u : Setup} (a : Accepts s u) where
+  count-is : length (membersIn u) ≡ u .count
+  count-is = length-take-le (u .count) (u .members) (a .members-within)
+
+  pub fill-asks : {tw cw ns base : List ℕ} → Stores (u .count) (u .words) tw cw ns base
+      → (Sound (membersIn u) (leanIn u) (globalsIn u) (valuesIn u) × Named (namesIn u) (length (leanIn u))) × ((u .words ≤ 64) × Stores (length (membersIn u)) (u .words) tw cw ns base)
+  fill-asks {tw} {cw} {ns} {base} r = ((a .framed .sound, a .framed .named), (few-words (a .framed), subst (λ n. Stores n (u .words) tw cw ns base) (sym count-is) r))
+
+-- ---- three sizes of stores
+
+-- a small sheet: up to 8 places and 72 members
+pub small-stores : {n w : ℕ} (tw cw ns base : List ℕ) → n ≤ 72 → w ≤ 4 → length tw ≡ 324 → length cw ≡ 272 → length ns ≡ 80 → length base ≡ 8 → Stores n w tw cw ns base
+small-stores {n} {w} tw cw ns base h k a b c d = sized n w 72 4 tw cw ns base h k (omega arith) (omega arith) (omega arith) (omega arith)
+
+-- up to 10 places
+pub middle-stores : {n w : ℕ} (tw cw ns base : List ℕ) → n ≤ 136 → w ≤ 16 → length tw ≡ 2320 → length cw ≡ 1040 → length ns ≡ 144 → length base ≡ 32 → Stores n w tw cw ns base
+middle-stores {n} {w} tw cw ns base h k a b c d = sized n w 136 16 tw cw ns base h k (omega arith) (omega arith) (omega arith) (omega arith)
+
+-- up to 12 places
+pub large-stores : {n w : ℕ} (tw cw ns base : List ℕ) → n ≤ 136 → w ≤ 64 → length tw ≡ 9280 → length cw ≡ 4112 → length ns ≡ 144 → length base ≡ 128 → Stores n w tw cw ns base
+large-stores {n} {w} tw cw ns base h k a b c d = sized n w 136 64 tw cw ns base h k (omega arith) (omega arith) (omega arith) (omega arith)

@@ -11,10 +11,11 @@ use Rattle.judge.specs.Judged.{Judged, goalsAt, verdictOf}
 use Rattle.judge.proofs.JudgeLaws.{judged-is}
 use Rattle.frame.specs.declared.Frame.{Frame}
 use Rattle.frame.specs.Framed.{Framed}
+use Rattle.frame.proofs.Stores.{enough-words}
 
 module _ {S : Tableau} {goal : Form} {ms ln globals names values : List ℕ} {f : Frame} (x : Framed S goal ms ln globals names values f) where
   pub framed-verdict : (base : List ℕ) → Based (f .words) (inBase ms ln globals values) names base → {a : Verdict} → Judged (goalsAt ms ln (f .words) base names (f .goal)) (f .namings) a → verdict S goal ≡ verdictOf a
   framed-verdict base b {a} j =
       ap (verdict S) (sym (x .goal-is))
-      ∙ judged-is (x .matches) (f .words) base b (x .enough) (f .goal)
+      ∙ judged-is (x .matches) (f .words) base b (enough-words x) (f .goal)
       (subst (λ n. Judged (goalsAt ms ln (f .words) base names (f .goal)) n a) (x .namings-are) j)

@@ -5,7 +5,8 @@ use Prim.Native.Nat.{ℕ, _≤_}
 use lib.ListN.{length, replicate, take}
 use Rattle.ctl.specs.Positive.{positive}
 use Rattle.sheet.specs.Reading.{formulas, goalOf}
-use Rattle.reader.specs.Reader.{refusalOf}
+use Rattle.limits.specs.declared.Limits.{Limits}
+use Rattle.limits.specs.Limits.{refusalUnder}
 use Rattle.prepare.specs.Prepared.{tableauIn}
 use Rattle.frame.specs.Framed.{Framed}
 use Rattle.frame.specs.declared.Frame.{Frame}
@@ -22,9 +23,9 @@ nothingBy k = record {
   globals = 0;
   everywhere = replicate 8 0;
   names = 0;
-  named = replicate 8 0;
+  named = replicate 12 0;
   values = 0;
-  valued = replicate 8 0;
+  valued = replicate 12 0;
   words = 0;
   goal = 0;
   namings = 0;
@@ -58,6 +59,7 @@ pub record Accepts (s : List ℕ) (r : Setup) : Type 0 where
   pub names-within : r .names ≤ length (r .named)
   pub values-within : r .values ≤ length (r .valued)
 
-pub record SetUp (s : List ℕ) (r : Setup) : Type 0 where
-  pub is : r .refusal ≡ refusalOf s
-  pub accepts : refusalOf s ≡ 0 → Accepts s r
+-- that of any sheet under any limits
+pub record SetUp (l : Limits) (s : List ℕ) (r : Setup) : Type 0 where
+  pub is : r .refusal ≡ refusalUnder l s
+  pub accepts : refusalUnder l s ≡ 0 → Accepts s r

@@ -1,12 +1,14 @@
 // From a sheet's bytes to what judging it needs, all that depends on the sheet alone, once for all namings: first what is read off the sheet,
 // then the words that are computed from it, in stores that are lent. Assumes nothing.
+use limits::Limits;
 ghost use mathlib.Core.Path.{_≡_};
+ghost use mathlib.Core.Bool.{true};
 ghost use mathlib.Core.List.{List};
 ghost use Prim.Native.Nat.{ℕ, _+_, _-_, _*_, _^_, _≤_, _<_};
 ghost use lib.ListN.{length, getD, take};
 ghost use Rattle.tableau.specs.Families.{Ready};
 ghost use Rattle.start.specs.Starts.{Based, inBase, Named};
-ghost use Rattle.frame.specs.Framed.{Frames, FramedAs, Sound};
+ghost use Rattle.frame.specs.Framed.{Frames, FramedAs, Sound, Stores};
 ghost use Rattle.frame.specs.SetUp.{Accepts, SetUp, globalsIn, leanIn, membersIn, namesIn, nothingBy, valuesIn};
 
 // The first n of some places, each below 256, at the beginning of a store.
@@ -24,7 +26,7 @@ fn copy_places(places: &[usize], n: usize, to: &mut [u8])
 
 // How many namings there are for so many names in a lean of that width: a bit for each name and each place but the name's own.
 fn count_namings(names: usize, width: usize) -> u64
-    requires { ⌜ (names ≤ 2) × ((width ≤ 8) × (0 < names → 0 < width)) ⌝ }
+    requires { ⌜ (names ≤ 2) × ((width ≤ 12) × (0 < names → 0 < width)) ⌝ }
     ensures { λ r. ⌜ r ≡ 2 ^ ((width - 1) * names) ⌝ }
 {
     if names == 0 {
@@ -84,9 +86,9 @@ pub struct Setup {
     pub globals: usize,
     pub everywhere: [u8; 8],
     pub names: usize,
-    pub named: [u8; 8],
+    pub named: [u8; 12],
     pub values: usize,
-    pub valued: [u8; 8],
+    pub valued: [u8; 12],
     pub words: usize,
     pub goal: usize,
     pub namings: u64,
@@ -104,20 +106,20 @@ fn nothing(k: u8) -> Setup
         globals: 0,
         everywhere: [0u8; 8],
         names: 0,
-        named: [0u8; 8],
+        named: [0u8; 12],
         values: 0,
-        valued: [0u8; 8],
+        valued: [0u8; 12],
         words: 0,
         goal: 0,
         namings: 0,
     }
 }
 
-// Any bytes: a sheet's set-up, or its refusal.
-pub fn set_up(s: &[u8]) -> Setup
-    ensures { λ r. ⌜ SetUp (now (s .entry)) r ⌝ }
+// Any bytes under any limits: a sheet's set-up, or its refusal.
+pub fn set_up(l: Limits, s: &[u8]) -> Setup
+    ensures { λ r. ⌜ SetUp l (now (s .entry)) r ⌝ }
 {
-    let reading = limits::read(s);
+    let reading = limits::read(l, s);
     let refusal = reading.refusal;
     let k = reader::number(refusal);
     if k != 0 {
@@ -132,8 +134,8 @@ pub fn set_up(s: &[u8]) -> Setup
     let symbols = reading.symbols;
     let formulas = reading.formulas;
     let mut everywhere = [0u8; 8];
-    let mut named = [0u8; 8];
-    let mut valued = [0u8; 8];
+    let mut named = [0u8; 12];
+    let mut valued = [0u8; 12];
     let f = frame_of(
         &members[..count],
         &lean[..width],
@@ -161,6 +163,16 @@ pub fn set_up(s: &[u8]) -> Setup
     }
 }
 
+// Whether a table of n members over w words is a small one: stores for 72 members over 4 words are enough for it. Most sheets are, and clearing larger stores would cost more than judging them.
+pub fn is_small(n: usize, w: usize) -> bool
+    ensures { λ r. ⌜ (r ≡ true → (n ≤ 72) × (w ≤ 4)) ⌝ }
+{
+    if 72 < n {
+        return false;
+    }
+    w <= 4
+}
+
 // Truth words, condition words and needs, and in `base` the types that hold one value and in which all globals are true, by whether they
 // have a name: how many needs there are.
 fn fill_words(
@@ -176,7 +188,7 @@ fn fill_words(
     base: &mut [u64],
 ) -> usize
     requires { ⌜ Sound (now ms) (now ln) (now globals) (now values) × Named (now names) (length (now ln)) ⌝ }
-    requires { ⌜ (w ≤ 4) × (324 ≤ length (now tw)) × (272 ≤ length (now cw)) × (80 ≤ length (now ns)) × (w + w ≤ length (now base)) ⌝ }
+    requires { ⌜ (w ≤ 64) × Stores (length (now ms)) w (now tw) (now cw) (now ns) (now base) ⌝ }
     ensures { λ n. ⌜ (n ≤ length (now (ns .exit))) × Ready (now (ms .entry)) (now (ln .entry)) w (now (tw .exit)) (now (cw .exit)) (take n (now (ns .exit))) ⌝ }
     ensures { λ _. ⌜ Based w (inBase (now (ms .entry)) (now (ln .entry)) (now (globals .entry)) (now (values .entry))) (now (names .entry)) (now (base .exit)) ⌝ }
 {
@@ -190,7 +202,7 @@ fn fill_words(
 // The words that depend on the sheet alone, in stores that are lent: how many needs there are.
 pub fn fill(u: Setup, tw: &mut [u64], cw: &mut [u64], ns: &mut [u64], base: &mut [u64]) -> usize
     requires { ⌜ ((s : List ℕ) × Accepts s u) ⌝ }
-    requires { ⌜ (324 ≤ length (now tw)) × (272 ≤ length (now cw)) × (80 ≤ length (now ns)) × (8 ≤ length (now base)) ⌝ }
+    requires { ⌜ Stores (u .count) (u .words) (now tw) (now cw) (now ns) (now base) ⌝ }
     ensures { λ n. ⌜ (n ≤ length (now (ns .exit))) × Ready (membersIn u) (leanIn u) (u .words) (now (tw .exit)) (now (cw .exit)) (take n (now (ns .exit))) ⌝ }
     ensures { λ _. ⌜ Based (u .words) (inBase (membersIn u) (leanIn u) (globalsIn u) (valuesIn u)) (namesIn u) (now (base .exit)) ⌝ }
 {

@@ -23,6 +23,7 @@ use Rattle.sheet.specs.Refusal.{bracesWrong, conditions, grammarWrong, symbolsW
 use Rattle.reader.specs.Reader.{refusalWithin}
 use Rattle.layout.specs.Ascii.{ascii}
 use Rattle.clean.specs.Clean.{cleanText, cleanWrong, formulaLines}
+use Rattle.limits.specs.Limits.{limitsWrong, refusalUnder, usual}
 use Rattle.outcomes.specs.Outcomes.{cleanRefusal}
 
 -- a sheet, and what is written of it; the refusal of a store of so many bytes, 0 for none
@@ -43,8 +44,8 @@ cases =
     ∷ []
 
 computed : Case → Case
-unfolding andSpine axSpine closure closureAll closureOf dedupe elemF exSpine orSpine spine expand parts bytesLt isNext lean printLt symbolLt withValues modes single signed braces capital print printMode printModes begins ended has same split anyLong byteWrong endsRight layoutRight lengthWrong startsRight textsOf unlines declare declared kindOf kindRight kindsFrom kindsOf nameCount hasText nameRight namesFrom namesOf letterRun spelled word entryFrom entryIn pairOf signOf runFront plainFront aloneFront headFront frontBy tokenBy skip spaces tokenAt innerAt choiceOf bracesAt markedOf modeAt modesAt withMode formulaAt letterLow lineAt pathFrom unitAt trees globalsOf goalOf bracesWrong conditions grammarWrong symbolsWrong refusalWithin cleanText cleanWrong formulaLines cleanRefusal
-computed c = record { sheet = c .sheet; text = cleanText (c .sheet); room = c .room; refusal = cleanRefusal (c .sheet) (c .room) }
+unfolding limitsWrong refusalUnder andSpine axSpine closure closureAll closureOf dedupe elemF exSpine orSpine spine expand parts bytesLt isNext lean printLt symbolLt withValues modes single signed braces capital print printMode printModes begins ended has same split anyLong byteWrong endsRight layoutRight lengthWrong startsRight textsOf unlines declare declared kindOf kindRight kindsFrom kindsOf nameCount hasText nameRight namesFrom namesOf letterRun spelled word entryFrom entryIn pairOf signOf runFront plainFront aloneFront headFront frontBy tokenBy skip spaces tokenAt innerAt choiceOf bracesAt markedOf modeAt modesAt withMode formulaAt letterLow lineAt pathFrom unitAt trees globalsOf goalOf bracesWrong conditions grammarWrong symbolsWrong refusalWithin cleanText cleanWrong formulaLines cleanRefusal
+computed c = record { sheet = c .sheet; text = cleanText (c .sheet); room = c .room; refusal = cleanRefusal usual (c .sheet) (c .room) }
 
 as-cleaned : map computed cases ≡ cases
 unfolding computed

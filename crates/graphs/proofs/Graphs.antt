@@ -37,6 +37,8 @@ use Rattle.outcomes.specs.declared.TableAnswer.{TableAnswer}
 use Rattle.outcomes.specs.declared.TableAnswer.the-variants.{Done}
 use Rattle.outcomes.specs.declared.VerdictAnswer.{VerdictAnswer}
 use Rattle.outcomes.specs.declared.VerdictAnswer.the-variants.{Open, Unsatisfiable}
+use Rattle.limits.specs.Limits.{limitsWrong, refusalUnder, usual}
+use Rattle.prepare.specs.Width.{wordsFor}
 use Rattle.outcomes.specs.Outcomes.{snapshotRefusal, snapshotRow, tableAnswer, tableRefusal, verdictOf}
 use Rattle.fitted.specs.Accepted.{listedIn, survivorsIn, verdictIn, wordsIn}
 
@@ -128,18 +130,18 @@ graphs =
 
 -- the row that Snapshot leaves of one of n bytes
 abbrev rowLeft : List ℕ → List ℕ → ℕ → List ℕ
-rowLeft s t n = snapshotRow s t (snapshotRefusal s t n) (replicate n 0)
+rowLeft s t n = snapshotRow s t (snapshotRefusal usual s t n) (replicate n 0)
 
 computed : Graph → Graph
-unfolding andSpine axSpine closure closureAll closureOf dedupe elemF exSpine orSpine spine sheetTableau expand parts bytesLt isNext lean printLt symbolLt withValues modes single signed namings startTypes roundsOf survivingTypes verdict begins ended has same split anyLong byteWrong declare declared endsRight kindOf kindRight kindsFrom kindsOf layoutRight lengthWrong nameCount hasText nameRight namesFrom namesOf startsRight textsOf letterRun spelled word entryFrom entryIn pairOf signOf runFront plainFront aloneFront headFront frontBy tokenBy skip spaces tokenAt innerAt choiceOf bracesAt markedOf modeAt modesAt withMode formulaAt letterLow lineAt pathFrom unitAt trees globalsOf goalOf bracesWrong conditions grammarWrong symbolsWrong refusalWithin tableRefusal listedIn verdictIn verdictOf wordsIn step leads row rounds tableEU tableAU sat rowOf ofStore entryAt byteStep run starts lineCount lineStore lineFits fits twice notOne judged readSnapshot snapshotRefusal allBelow anyBelow countBelow
+unfolding limitsWrong refusalUnder wordsFor andSpine axSpine closure closureAll closureOf dedupe elemF exSpine orSpine spine sheetTableau expand parts bytesLt isNext lean printLt symbolLt withValues modes single signed namings startTypes roundsOf survivingTypes verdict begins ended has same split anyLong byteWrong declare declared endsRight kindOf kindRight kindsFrom kindsOf layoutRight lengthWrong nameCount hasText nameRight namesFrom namesOf startsRight textsOf letterRun spelled word entryFrom entryIn pairOf signOf runFront plainFront aloneFront headFront frontBy tokenBy skip spaces tokenAt innerAt choiceOf bracesAt markedOf modeAt modesAt withMode formulaAt letterLow lineAt pathFrom unitAt trees globalsOf goalOf bracesWrong conditions grammarWrong symbolsWrong refusalWithin tableRefusal listedIn verdictIn verdictOf wordsIn step leads row rounds tableEU tableAU sat rowOf ofStore entryAt byteStep run starts lineCount lineStore lineFits fits twice notOne judged readSnapshot snapshotRefusal allBelow anyBelow countBelow
 computed g = record {
   sheet = g .sheet;
-  verdict = map (λ v. verdictOf (g .sheet)) (g .verdict);
-  tables = map (λ t. (t .0, tableAnswer (g .sheet) (t .0) (tableRefusal (g .sheet) (t .0) 4 4))) (g .tables);
+  verdict = map (λ v. verdictOf usual (g .sheet)) (g .verdict);
+  tables = map (λ t. (t .0, tableAnswer (g .sheet) (t .0) (tableRefusal usual (g .sheet) (t .0) 4 4))) (g .tables);
   survivors = map (λ t. (t .0, survivorsIn (g .sheet) (t .0))) (g .survivors);
   lists = map (λ t. (t .0, listedIn (g .sheet) (t .0))) (g .lists);
   rows = map (λ t. (t .0, rowLeft (g .sheet) (t .0) (length (t .1)))) (g .rows);
-  refused = map (λ t. (t .0, t .1, snapshotRefusal (g .sheet) (t .0) (t .1))) (g .refused);
+  refused = map (λ t. (t .0, t .1, snapshotRefusal usual (g .sheet) (t .0) (t .1))) (g .refused);
 }
 
 as-drawn : map computed graphs ≡ graphs

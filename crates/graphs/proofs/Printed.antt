@@ -26,6 +26,7 @@ use Rattle.reader.specs.Reader.{refusalWithin}
 use Rattle.layout.specs.Ascii.{ascii}
 use Rattle.lines.specs.Lines.{decimal, digits, headingLine, namingLine, refusedLine, spaced, verdictHeading, verdictLine}
 use Rattle.fitted.specs.Accepted.{verdictIn}
+use Rattle.limits.specs.Limits.{limitsWrong, refusalUnder, usual}
 use Rattle.report.specs.Text.{linesOf, namingOf, textOf}
 
 -- a sheet, and what is printed for it
@@ -44,8 +45,8 @@ cases =
     ∷ []
 
 computed : Case → Case
-unfolding andSpine axSpine closure closureAll closureOf dedupe elemF exSpine orSpine spine sheetTableau expand parts bytesLt isNext lean printLt symbolLt modes single signed namings startTypes roundsOf survivingTypes verdict begins ended has same split anyLong byteWrong endsRight layoutRight lengthWrong startsRight textsOf declare declared kindOf kindRight kindsFrom kindsOf nameCount hasText nameRight namesFrom namesOf letterRun spelled word entryFrom entryIn pairOf signOf runFront plainFront aloneFront headFront frontBy tokenBy skip spaces tokenAt innerAt choiceOf bracesAt markedOf modeAt modesAt withMode formulaAt letterLow lineAt pathFrom unitAt trees globalsOf goalOf bracesWrong conditions grammarWrong symbolsWrong refusalWithin decimal digits headingLine namingLine refusedLine spaced verdictHeading verdictLine verdictIn linesOf namingOf textOf
-computed c = record { sheet = c .sheet; text = textOf (c .sheet) (ascii "\n") }
+unfolding limitsWrong refusalUnder andSpine axSpine closure closureAll closureOf dedupe elemF exSpine orSpine spine sheetTableau expand parts bytesLt isNext lean printLt symbolLt modes single signed namings startTypes roundsOf survivingTypes verdict begins ended has same split anyLong byteWrong endsRight layoutRight lengthWrong startsRight textsOf declare declared kindOf kindRight kindsFrom kindsOf nameCount hasText nameRight namesFrom namesOf letterRun spelled word entryFrom entryIn pairOf signOf runFront plainFront aloneFront headFront frontBy tokenBy skip spaces tokenAt innerAt choiceOf bracesAt markedOf modeAt modesAt withMode formulaAt letterLow lineAt pathFrom unitAt trees globalsOf goalOf bracesWrong conditions grammarWrong symbolsWrong refusalWithin decimal digits headingLine namingLine refusedLine spaced verdictHeading verdictLine verdictIn linesOf namingOf textOf
+computed c = record { sheet = c .sheet; text = textOf usual (c .sheet) (ascii "\n") }
 
 as-printed : map computed cases ≡ cases
 unfolding computed

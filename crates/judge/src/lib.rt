@@ -19,7 +19,7 @@ pub enum Verdict {
     Unsatisfiable,
 }
 
-// Naming r: both stores then hold its surviving types. The room that its rounds work in is local.
+// Naming r: both stores then hold its surviving types. The room that its rounds work in is local, and has the sheet's size: a naming of a small sheet does not clear a large one's.
 pub fn fill_table(
     ms: &[u64],
     ln: &[u8],
@@ -34,13 +34,36 @@ pub fn fill_table(
     second: &mut [u64],
 ) -> Counts
     requires { ⌜ Ready (now ms) (now ln) w (now tw) (now cw) (now ns) ⌝ }
-    requires { ⌜ Places w (now ln) (now names) (now base) × ((w ≤ 4) × ((w ≤ length (now first)) × (w ≤ length (now second)))) ⌝ }
+    requires { ⌜ Places w (now ln) (now names) (now base) × ((w ≤ 64) × ((w ≤ length (now first)) × (w ≤ length (now second)))) ⌝ }
     ensures { λ c. ⌜ Tabled (startList w (now (base .entry)) (now (names .entry)) (length (now (ln .entry))) r) (Survivors (now (ms .entry)) (now (ln .entry)) (startList w (now (base .entry)) (now (names .entry)) (length (now (ln .entry))) r)) (Rounds (now (ms .entry)) (now (ln .entry)) (startList w (now (base .entry)) (now (names .entry)) (length (now (ln .entry))) r)) w (now (first .entry)) (now (second .entry)) (now (first .exit)) (now (second .exit)) c ⌝ }
 {
-    let mut copy = [0u64; 4];
-    let mut todo = [0u64; 4];
-    let mut v = [0u64; 4];
-    let mut rest = [0u64; 4];
+    if w <= 4 {
+        let mut copy = [0u64; 4];
+        let mut todo = [0u64; 4];
+        let mut v = [0u64; 4];
+        let mut rest = [0u64; 4];
+        return table(
+            ms,
+            ln,
+            w,
+            tw,
+            cw,
+            ns,
+            names,
+            r,
+            base,
+            first,
+            second,
+            &mut copy,
+            &mut todo,
+            &mut v,
+            &mut rest,
+        );
+    }
+    let mut copy = [0u64; 64];
+    let mut todo = [0u64; 64];
+    let mut v = [0u64; 64];
+    let mut rest = [0u64; 64];
     table(
         ms,
         ln,
@@ -89,8 +112,8 @@ fn try_naming(
     goal_type(ms, ln, w, tw, goal, first)
 }
 
-// The least naming under which a surviving type has the goal, with the least such type.
-pub fn judge(
+// The least naming under which a surviving type has the goal, with the least such type. The six stores are room to work in.
+fn judge_in(
     ms: &[u64],
     ln: &[u8],
     w: usize,
@@ -143,4 +166,73 @@ pub fn judge(
         n = naming::advanced(n);
     }
     Verdict::Unsatisfiable
+}
+
+// The same, in room that has the sheet's size.
+pub fn judge(
+    ms: &[u64],
+    ln: &[u8],
+    w: usize,
+    tw: &[u64],
+    cw: &[u64],
+    ns: &[u64],
+    names: &[u8],
+    base: &[u64],
+    goal: usize,
+    namings: u64,
+) -> Verdict
+    requires { ⌜ Ready (now ms) (now ln) w (now tw) (now cw) (now ns) ⌝ }
+    requires { ⌜ Places w (now ln) (now names) (now base) × ((w ≤ 64) × (goal < length (now ms))) ⌝ }
+    ensures { λ r. ⌜ Judged (goalsAt (now (ms .entry)) (now (ln .entry)) w (now (base .entry)) (now (names .entry)) goal) namings r ⌝ }
+{
+    if w <= 4 {
+        let mut first = [0u64; 4];
+        let mut second = [0u64; 4];
+        let mut copy = [0u64; 4];
+        let mut todo = [0u64; 4];
+        let mut v = [0u64; 4];
+        let mut rest = [0u64; 4];
+        return judge_in(
+            ms,
+            ln,
+            w,
+            tw,
+            cw,
+            ns,
+            names,
+            base,
+            goal,
+            namings,
+            &mut first,
+            &mut second,
+            &mut copy,
+            &mut todo,
+            &mut v,
+            &mut rest,
+        );
+    }
+    let mut first = [0u64; 64];
+    let mut second = [0u64; 64];
+    let mut copy = [0u64; 64];
+    let mut todo = [0u64; 64];
+    let mut v = [0u64; 64];
+    let mut rest = [0u64; 64];
+    judge_in(
+        ms,
+        ln,
+        w,
+        tw,
+        cw,
+        ns,
+        names,
+        base,
+        goal,
+        namings,
+        &mut first,
+        &mut second,
+        &mut copy,
+        &mut todo,
+        &mut v,
+        &mut rest,
+    )
 }

@@ -1,1 +1,2 @@
 pub mod GoalText
+pub mod LimitLaws

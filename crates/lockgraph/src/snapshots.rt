@@ -1,15 +1,18 @@
 // Snapshot: at which nodes of a given snapshot the goal and the globals hold. Assumes nothing.
+use limits::Limits;
+use limits::usual_limits;
 use outcomes::SnapshotAnswer;
+ghost use Rattle.limits.specs.Limits.{usual};
 ghost use Rattle.outcomes.specs.Outcomes.{SnapshotIs};
 ghost use Rattle.outcomes.specs.Demands.{SnapshotMeans};
 use snapshot::Answer;
 
 // A byte of the row for each node: 1 if the goal holds there, plus 2 if all globals do.
-pub fn snapshot(sheet: &[u8], text: &[u8], row: &mut [u8]) -> SnapshotAnswer
-    ensures { λ o. ⌜ SnapshotIs (now (sheet .entry)) (now (text .entry)) (now (row .entry)) o (now (row .exit)) ⌝ }
-    ensures { λ o. ⌜ SnapshotMeans (now (sheet .entry)) (now (text .entry)) o (now (row .exit)) ⌝ }
+pub fn snapshot_within(l: Limits, sheet: &[u8], text: &[u8], row: &mut [u8]) -> SnapshotAnswer
+    ensures { λ o. ⌜ SnapshotIs l (now (sheet .entry)) (now (text .entry)) (now (row .entry)) o (now (row .exit)) ⌝ }
+    ensures { λ o. ⌜ SnapshotMeans l (now (sheet .entry)) (now (text .entry)) o (now (row .exit)) ⌝ }
 {
-    let reading = limits::read(sheet);
+    let reading = limits::read(l, sheet);
     let refusal = reading.refusal;
     let k = reader::number(refusal);
     if k != 0 {
@@ -38,4 +41,12 @@ pub fn snapshot(sheet: &[u8], text: &[u8], row: &mut [u8]) -> SnapshotAnswer
             SnapshotAnswer::Done { nodes: n }
         }
     }
+}
+
+// The same without limits.
+pub fn snapshot(sheet: &[u8], text: &[u8], row: &mut [u8]) -> SnapshotAnswer
+    ensures { λ o. ⌜ SnapshotIs usual (now (sheet .entry)) (now (text .entry)) (now (row .entry)) o (now (row .exit)) ⌝ }
+    ensures { λ o. ⌜ SnapshotMeans usual (now (sheet .entry)) (now (text .entry)) o (now (row .exit)) ⌝ }
+{
+    snapshot_within(usual_limits(), sheet, text, row)
 }

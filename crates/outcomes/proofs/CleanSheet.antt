@@ -16,8 +16,10 @@ use Rattle.ctl.specs.Meaning.{HoldsRaw}
 use Rattle.head.specs.Head.{kinds, spellings}
 use Rattle.sheet.specs.Refusal.{readRefusal}
 use Rattle.sheet.specs.Reading.{formulas}
-use Rattle.reader.specs.Reader.{forms, members, places, refusalOf, refusalWithin}
-use Rattle.reader.proofs.NumberLaws.{within-zero}
+use Rattle.reader.specs.Reader.{forms, members, places, refusalWithin}
+use Rattle.limits.specs.declared.Limits.{Limits}
+use Rattle.limits.specs.Limits.{limitsWrong, refusalUnder}
+use Rattle.limits.proofs.LimitLaws.{accepted-read, accepted-within}
 use Rattle.prepare.specs.Prepared.{tableauIn}
 use Rattle.clean.specs.Clean.{cleanText, cleanWrong}
 use Rattle.clean.specs.Same.{SameSheet}
@@ -35,8 +37,8 @@ use Rattle.outcomes.proofs.SameOutcomes.{moved, one-form, same-book, sa
 
 -- ---- sheets that say the same are cleaned alike
 
-module _ {s t : List ℕ} (x : SameSheet s t) (a : refusalOf t ≡ refusalOf s) where
-  clean-number : (n : ℕ) → cleanRefusal t n ≡ cleanRefusal s n
+module _ {s t : List ℕ} (x : SameSheet s t) (K L : Limits) (a : refusalUnder K t ≡ refusalUnder L s) where
+  clean-number : (n : ℕ) → cleanRefusal K t n ≡ cleanRefusal L s n
   unfolding cleanRefusal
   clean-number n = ap₂ (λ k b. orElse k (cond b 18 0)) a (same-wrong x n)
 
@@ -48,7 +50,7 @@ module _ {s t : List ℕ} (x : SameSheet s t) (a : refusalOf t ≡ refusalOf s) 
   clean-left d zero = ap (λ w. w ++ drop (length w) d) (same-text x)
   clean-left d (suc k) = refl
 
-  pub same-clean : {d d′ : List ℕ} {o : CleanAnswer} → CleanIs s d o d′ → CleanIs t d o d′
+  pub same-clean : {d d′ : List ℕ} {o : CleanAnswer} → CleanIs L s d o d′ → CleanIs K t d o d′
   same-clean {d} h = let k = clean-number (length d) in record { answer = moved k clean-told (h .answer); store-holds = moved k (clean-left d) (h .store-holds) }
 
 -- formula j of one sheet has the positive form of formula j of the other
@@ -57,17 +59,17 @@ form-at l m e j = sym (List·getD-map positive l j Raw.zero) ∙ ap (λ (q : Lis
 
 -- ---- what Clean wrote
 
-module _ {s d d′ : List ℕ} {n : ℕ} (h : CleanIs s d (Done n) d′) where
+module _ {L : Limits} {s d d′ : List ℕ} {n : ℕ} (h : CleanIs L s d (Done n) d′) where
   no-refusal : (k : ℕ) → Done n ≡ cleanAnswer s k → k ≡ 0
   no-refusal zero e = refl
   no-refusal (suc k) e = let z : _≡_ {A = ℕ} 0 1 = cc in absurd (omega arith)
 
-  pub clean-none : cleanRefusal s (length d) ≡ 0
-  clean-none = no-refusal (cleanRefusal s (length d)) (h .answer)
+  pub clean-none : cleanRefusal L s (length d) ≡ 0
+  clean-none = no-refusal (cleanRefusal L s (length d)) (h .answer)
 
-  both : (refusalOf s ≡ 0) × (_≡_ {A = ℕ} (cond (cleanWrong s (length d)) 18 0) 0)
+  both : (refusalUnder L s ≡ 0) × (_≡_ {A = ℕ} (cond (cleanWrong s (length d)) 18 0) 0)
   unfolding cleanRefusal
-  both = else-none (refusalOf s) (cond (cleanWrong s (length d)) 18 0) clean-none
+  both = else-none (refusalUnder L s) (cond (cleanWrong s (length d)) 18 0) clean-none
 
   right : cleanWrong s (length d) ≡ false
   right = go (cleanWrong s (length d)) (both .1)
@@ -90,17 +92,21 @@ module _ {s d d′ : List ℕ} {n : ℕ} (h : CleanIs s d (Done n) d′) where
   -- ---- what they say
 
   pub clean-same : SameSheet s (take n d′)
-  clean-same = subst (SameSheet s) (sym clean-is) (written-same 64 8 (length d) s (both .0) right)
+  clean-same = subst (SameSheet s) (sym clean-is) (written-same (L .closure) (L .lean) (length d) s (accepted-within L s (both .0)) right)
 
   clean-read : readRefusal (take n d′) ≡ 0
-  clean-read = subst (λ w. readRefusal w ≡ 0) (sym clean-is) (written-read 64 8 (length d) s (both .0) right)
+  clean-read = subst (λ w. readRefusal w ≡ 0) (sym clean-is) (written-read (L .closure) (L .lean) (length d) s (accepted-within L s (both .0)) right)
 
   -- accepted under the same limits, whatever they are
   pub clean-within : (most wide : ℕ) → refusalWithin most wide (take n d′) ≡ refusalWithin most wide s
-  clean-within = same-within (within-zero 64 8 s (both .0)) clean-read clean-same
+  clean-within = same-within (accepted-read L s (both .0)) clean-read clean-same
 
-  pub clean-accepted : refusalOf (take n d′) ≡ 0
-  clean-accepted = clean-within 64 8 ∙ both .0
+  pub clean-under : (K : Limits) → refusalUnder K (take n d′) ≡ refusalUnder K s
+  unfolding refusalUnder
+  clean-under K = ap (cond (limitsWrong K) 19) (clean-within (K .closure) (K .lean))
+
+  pub clean-accepted : refusalUnder L (take n d′) ≡ 0
+  clean-accepted = clean-under L ∙ both .0
 
   pub clean-symbols : (spellings (take n d′) ≡ spellings s) × (kinds (take n d′) ≡ kinds s)
   clean-symbols = (same-spellings clean-same, same-kinds clean-same)
@@ -119,29 +125,26 @@ module _ {s d d′ : List ℕ} {n : ℕ} (h : CleanIs s d (Done n) d′) where
   pub clean-means : (g : Snapshot) (j i : ℕ) → i < g .n → HoldsRaw g (getD (formulas (take n d′)) j Raw.zero) i ↔ HoldsRaw g (getD (formulas s) j Raw.zero) i
   clean-means g j = one-form g (getD (formulas (take n d′)) j Raw.zero) (getD (formulas s) j Raw.zero) (form-at (formulas (take n d′)) (formulas s) clean-forms j)
 
-  -- ---- the operations
+  -- ---- the operations, under whatever limits
 
-  alike : refusalOf (take n d′) ≡ refusalOf s
-  alike = clean-within 64 8
+  pub clean-table : {K : Limits} {r : ℕ} {a b a′ b′ : List ℕ} {o : TableAnswer} → TableIs K s r a b o a′ b′ → TableIs K (take n d′) r a b o a′ b′
+  clean-table {K} = same-table clean-same K (clean-under K)
 
-  pub clean-table : {r : ℕ} {a b a′ b′ : List ℕ} {o : TableAnswer} → TableIs s r a b o a′ b′ → TableIs (take n d′) r a b o a′ b′
-  clean-table = same-table clean-same alike
+  pub clean-book : {K : Limits} {e e′ : List ℕ} {o : BookAnswer} → BookIs K s e o e′ → BookIs K (take n d′) e o e′
+  clean-book {K} = same-book clean-same K K (clean-under K)
 
-  pub clean-book : {e e′ : List ℕ} {o : BookAnswer} → BookIs s e o e′ → BookIs (take n d′) e o e′
-  clean-book = same-book clean-same alike
+  pub clean-list : {K : Limits} {r : ℕ} {e e′ : List ℕ} {o : ListAnswer} → ListIs K s r e o e′ → ListIs K (take n d′) r e o e′
+  clean-list {K} = same-list clean-same K K (clean-under K)
 
-  pub clean-list : {r : ℕ} {e e′ : List ℕ} {o : ListAnswer} → ListIs s r e o e′ → ListIs (take n d′) r e o e′
-  clean-list = same-list clean-same alike
+  pub clean-verdict : (K : Limits) → verdictOf K (take n d′) ≡ verdictOf K s
+  clean-verdict K = same-verdict clean-same K K (clean-under K)
 
-  pub clean-verdict : verdictOf (take n d′) ≡ verdictOf s
-  clean-verdict = same-verdict clean-same alike
-
-  pub clean-snapshot : {u row row′ : List ℕ} {o : SnapshotAnswer} → SnapshotIs s u row o row′ → SnapshotIs (take n d′) u row o row′
-  clean-snapshot = same-snapshot clean-same alike
+  pub clean-snapshot : {K : Limits} {u row row′ : List ℕ} {o : SnapshotAnswer} → SnapshotIs K s u row o row′ → SnapshotIs K (take n d′) u row o row′
+  clean-snapshot {K} = same-snapshot clean-same K K (clean-under K)
 
   -- into whatever store: cleaned again, it is what it is
-  pub clean-again : {e e′ : List ℕ} {o : CleanAnswer} → CleanIs s e o e′ → CleanIs (take n d′) e o e′
-  clean-again = same-clean clean-same alike
+  pub clean-again : {K : Limits} {e e′ : List ℕ} {o : CleanAnswer} → CleanIs K s e o e′ → CleanIs K (take n d′) e o e′
+  clean-again {K} = same-clean clean-same K K (clean-under K)
 
   pub clean-stays : cleanText (take n d′) ≡ take n d′
   clean-stays = same-text clean-same ∙ sym clean-is

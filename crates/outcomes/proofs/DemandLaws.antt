@@ -18,10 +18,13 @@ use Rattle.ctl.proofs.VerdictLaws.{open-some, surviving-iff}
 use Rattle.wordset.specs.Words.{member}
 use Rattle.wordset.proofs.WordLaws.{member-packed}
 use Rattle.sheet.specs.Reading.{formulas, globalsOf, goalOf, isName, spellOf, valuesIn}
-use Rattle.reader.specs.Reader.{refusalOf}
+use Rattle.limits.specs.declared.Limits.{Limits}
+use Rattle.limits.specs.Limits.{refusalUnder}
+use Rattle.limits.proofs.LimitLaws.{accepted-lean, accepted-read}
+use Rattle.prepare.specs.Width.{wordsFor}
+use Rattle.prepare.proofs.Bridge.{sheet-lean}
+use Rattle.prepare.proofs.WidthLaws.{words-enough, words-wider}
 use Rattle.prepare.specs.Prepared.{tableauIn}
-use Rattle.frame.specs.SetUp.{SetUp}
-use Rattle.frame.specs.declared.Setup.{Setup}
 use Rattle.outcomes.specs.declared.TableAnswer.{TableAnswer}
 use Rattle.outcomes.specs.declared.TableAnswer.the-variants as Table
 use Rattle.outcomes.specs.declared.VerdictAnswer.{VerdictAnswer}
@@ -29,24 +32,25 @@ use Rattle.outcomes.specs.declared.VerdictAnswer.the-variants as Judging
 use Rattle.outcomes.specs.Outcomes.{TableIs, tableAnswer, tableRefusal, tableStore, verdictAnswer, verdictBy, verdictOf}
 use Rattle.fitted.specs.Accepted.{holding, verdictIn, wordsIn}
 use Rattle.outcomes.specs.Demands.{StandsByClosed, TableDemand2, TableDemand3, Tells, VerdictDemand2, VerdictDemand3, WholeClaim, tells-open, tells-unsatisfiable}
-use Rattle.fitted.proofs.AcceptedLaws.{few-words, types-within, words-are}
 use Rattle.outcomes.proofs.RefusalLaws.{table-none}
 
--- ---- how wide an accepted sheet is
+-- ---- how wide a sheet is
 
-pub record Wide (s : List ℕ) : Type 0 where
-  pub few : wordsIn s ≤ 4
-  pub enough : 2 ^ length (tableauIn s .ln) ≤ wordsIn s * 64
+enough : (s : List ℕ) → 2 ^ length (tableauIn s .ln) ≤ wordsIn s * 64
+unfolding wordsIn
+enough s = words-enough (length (tableauIn s .ln))
 
-pub set-up-wide : {s : List ℕ} {u : Setup} → SetUp s u → refusalOf s ≡ 0 → Wide s
-set-up-wide {s} x z = let e = x .is ∙ z in record { few = subst (λ w. w ≤ 4) (words-are x e) (few-words x e); enough = types-within x e }
+-- a sheet that is accepted has no more words than the limit calls for
+pub words-within : (L : Limits) (s : List ℕ) → refusalUnder L s ≡ 0 → wordsIn s ≤ wordsFor (L .lean)
+unfolding wordsIn
+words-within L s z = words-wider (length (tableauIn s .ln)) (subst (λ l. length l ≤ L .lean) (sym (sheet-lean s (accepted-read L s z))) (accepted-lean L s z))
 
 whole : (s : List ℕ) → WholeClaim s (Ctl.verdict (tableauIn s) (positive (goalOf (formulas s))))
 whole s = demand-3 (spellOf s) (isName s) (valuesIn s) (globalsOf (formulas s)) (goalOf (formulas s))
 
 -- ---- Table
 
-module _ (s : List ℕ) (r : ℕ) where
+module _ (L : Limits) (s : List ℕ) (r : ℕ) where
   -- a store that holds the surviving types has the bits of these, and no other
   held : (d : List ℕ) → wordsIn s ≤ length d → (t : ℕ) → t < wordsIn s * 64 → T (member (holding s r d) t) ↔ (t ∈ survivingTypes (tableauIn s) r)
   unfolding holding
@@ -63,16 +67,15 @@ module _ (s : List ℕ) (r : ℕ) where
     pub in-first : (t : ℕ) → t < wordsIn s * 64 → T (member first′ t) ↔ (t ∈ survivingTypes (tableauIn s) r)
     pub in-second : (t : ℕ) → t < wordsIn s * 64 → T (member second′ t) ↔ (t ∈ survivingTypes (tableauIn s) r)
 
-  module _ {first second : List ℕ} {o : TableAnswer} {first′ second′ : List ℕ} (wide : refusalOf s ≡ 0 → Wide s) (x : TableIs s r first second o first′ second′) where
+  module _ {first second : List ℕ} {o : TableAnswer} {first′ second′ : List ℕ} (x : TableIs L s r first second o first′ second′) where
     behind : (w start left rounds : ℕ) → o ≡ Table.Done w start left rounds → Behind first second first′ second′ w start left rounds
-    behind w start left rounds e = go (tableRefusal s r (length first) (length second)) refl (sym e ∙ x .answer) (x .first-holds) (x .second-holds)
+    behind w start left rounds e = go (tableRefusal L s r (length first) (length second)) refl (sym e ∙ x .answer) (x .first-holds) (x .second-holds)
       where
-        go : (k : ℕ) → tableRefusal s r (length first) (length second) ≡ k → Table.Done w start left rounds ≡ tableAnswer s r k → first′ ≡ tableStore s r k first → second′ ≡ tableStore s r k second
+        go : (k : ℕ) → tableRefusal L s r (length first) (length second) ≡ k → Table.Done w start left rounds ≡ tableAnswer s r k → first′ ≡ tableStore s r k first → second′ ≡ tableStore s r k second
             → Behind first second first′ second′ w start left rounds
         go zero z a f g =
-            let n = table-none s r (length first) (length second) z in
-            let v = wide (n .0) in
-            let few = v .few in
+            let n = table-none L s r (length first) (length second) z in
+            let few = words-within L s (n .0) in
             let w-is : w ≡ wordsIn s = cc in
             let start-is : start ≡ length (startTypes (tableauIn s) r) = cc in
             let left-is : left ≡ length (survivingTypes (tableauIn s) r) = cc in
@@ -81,7 +84,7 @@ module _ (s : List ℕ) (r : ℕ) where
             record {
               width = w-is;
               few = omega arith;
-              enough = v .enough;
+              enough = enough s;
               in-first = subst (λ d. (t : ℕ) → t < wordsIn s * 64 → T (member d t) ↔ (t ∈ survivingTypes (tableauIn s) r)) (sym f) (held first (omega (arith, n .1 .0)));
               in-second = subst (λ d. (t : ℕ) → t < wordsIn s * 64 → T (member d t) ↔ (t ∈ survivingTypes (tableauIn s) r)) (sym g) (held second (omega (arith, n .1 .1)));
             }
@@ -100,7 +103,7 @@ module _ (s : List ℕ) (r : ℕ) where
       in-second = λ w start left rounds e. (let b = behind w start left rounds e in by-closed second′ w (b .width) (b .in-second));
     }
 
-    pub table-demand-3 : TableDemand3 s r o first′ second′
+    pub table-demand-3 : TableDemand3 L s r o first′ second′
     table-demand-3 = record {
       whole = λ z. whole s;
       few-rounds = λ w start left rounds e. behind w start left rounds e .few;
@@ -115,8 +118,8 @@ module _ (s : List ℕ) (r : ℕ) where
 
 -- ---- Verdict
 
-module _ (s : List ℕ) where
-  by-verdict : refusalOf s ≡ 0 → verdictOf s ≡ verdictBy (verdictIn s)
+module _ (L : Limits) (s : List ℕ) where
+  by-verdict : refusalUnder L s ≡ 0 → verdictOf L s ≡ verdictBy (verdictIn s)
   unfolding verdictOf
   by-verdict z = ap (verdictAnswer s) z
 
@@ -133,16 +136,16 @@ module _ (s : List ℕ) where
   tells (Ctl.open′ r t) = tells-open r t
 
   -- an answer that is no refusal comes of a sheet that is not refused
-  not-refused : verdictOf s ≡ Judging.Unsatisfiable → refusalOf s ≡ 0
+  not-refused : verdictOf L s ≡ Judging.Unsatisfiable → refusalUnder L s ≡ 0
   unfolding verdictOf
-  not-refused e = go (refusalOf s) refl e
+  not-refused e = go (refusalUnder L s) refl e
     where
-      go : (k : ℕ) → refusalOf s ≡ k → verdictAnswer s k ≡ Judging.Unsatisfiable → refusalOf s ≡ 0
+      go : (k : ℕ) → refusalUnder L s ≡ k → verdictAnswer s k ≡ Judging.Unsatisfiable → refusalUnder L s ≡ 0
       go zero z i = z
       go (suc k) z i = absurd (let j : _≡_ {A = ℕ} 0 1 = cc in omega arith)
 
-  module _ {v : VerdictAnswer} (x : v ≡ verdictOf s) where
-    pub verdict-demand-2 : VerdictDemand2 s v
+  module _ {v : VerdictAnswer} (x : v ≡ verdictOf L s) where
+    pub verdict-demand-2 : VerdictDemand2 L s v
     unfolding verdictIn
     verdict-demand-2 = record {
       open-iff = λ z. (let i = open-some (tableauIn s) (positive (goalOf (formulas s))) in
@@ -150,7 +153,7 @@ module _ (s : List ℕ) where
           (λ w. i .0 (w .0, w .1, open-back (verdictIn s) (w .0) (w .1) (sym e ∙ w .2)), λ h. (let w = i .1 h in (w .0, w .1, e ∙ ap verdictBy (w .2)))));
     }
 
-    pub verdict-demand-3 : VerdictDemand3 s v
+    pub verdict-demand-3 : VerdictDemand3 L s v
     unfolding verdictIn
     verdict-demand-3 = record {
       whole = λ z. (verdictIn s, subst (λ a. Tells a (verdictIn s)) (sym (x ∙ by-verdict z)) (tells (verdictIn s)), whole s);

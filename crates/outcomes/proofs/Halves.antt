@@ -9,13 +9,14 @@ use Rattle.outcomes.specs.declared.SnapshotAnswer.{SnapshotAnswer}
 use Rattle.outcomes.specs.declared.SnapshotAnswer.the-variants.{Done}
 use Rattle.outcomes.specs.declared.VerdictAnswer.{VerdictAnswer}
 use Rattle.outcomes.specs.declared.VerdictAnswer.the-variants.{Unsatisfiable}
+use Rattle.limits.specs.declared.Limits.{Limits}
 use Rattle.outcomes.specs.Demands.{SnapshotMeans, VerdictDemand3}
 
 -- of whatever Snapshot and Verdict answered on one sheet, by their contracts
-pub halves-agree : (s t : List ℕ) {o : SnapshotAnswer} {row : List ℕ} {v : VerdictAnswer} → SnapshotMeans s t o row → VerdictDemand3 s v → (n : ℕ) → o ≡ Done n → ((i : ℕ) → i < n → 2 ≤ getD row i 0)
+pub halves-agree : (K L : Limits) (s t : List ℕ) {o : SnapshotAnswer} {row : List ℕ} {v : VerdictAnswer} → SnapshotMeans K s t o row → VerdictDemand3 L s v → (n : ℕ) → o ≡ Done n → ((i : ℕ) → i < n → 2 ≤ getD row i 0)
     → (i : ℕ) → i < n → getD row i 0 % 2 ≡ 1 → v ≡ Unsatisfiable → ⊥
 unfolding ofLines
-halves-agree s t x y n e all i h bit u =
+halves-agree K L s t x y n e all i h bit u =
     let j = x .judges n e in
     let c = j .2 in
     let m = j .4 in

@@ -11,3 +11,4 @@ pub mod WithoutValues
 pub mod SameOutcomes
 pub mod CleanLaws
 pub mod CleanSheet
+pub mod WiderLimits

@@ -14,6 +14,7 @@ use Rattle.ctl.proofs.SortLaws.{ascending-unique, sort-length, sort-unique}
 use Rattle.ctl.proofs.TypeOrder.{types-members, types-only, types-sorted}
 use Rattle.ctl.proofs.VerdictLaws.{surviving-ascend}
 use Rattle.prepare.specs.Prepared.{tableauIn}
+use Rattle.limits.specs.declared.Limits.{Limits}
 use Rattle.fitted.specs.Accepted.{listedIn, survivorsIn}
 use Rattle.outcomes.specs.Former.{EachOnce, FormerListIs, occurrences}
 use Rattle.outcomes.specs.Outcomes.{ListIs, listRefusal, listStore}
@@ -67,10 +68,10 @@ module _ (s : List ℕ) (r : ℕ) where
   }
 
 -- whatever List answers and leaves, it keeps the promise that left the order open
-pub list-former : {s : List ℕ} {r : ℕ} {d : List ℕ} {o : ListAnswer} {d′ : List ℕ} → ListIs s r d o d′ → FormerListIs s r d o d′
-list-former {s} {r} {d} {o} {d′} x =
+pub list-former : {L : Limits} {s : List ℕ} {r : ℕ} {d : List ℕ} {o : ListAnswer} {d′ : List ℕ} → ListIs L s r d o d′ → FormerListIs L s r d o d′
+list-former {L} {s} {r} {d} {o} {d′} x =
     let left = length (survivorsIn s r) in
-    let k = listRefusal s r (length d) in
+    let k = listRefusal L s r (length d) in
     let is : k ≡ 0 → d′ ≡ listedIn s r ++ drop left d = λ z. x .store-holds ∙ ap (λ q. listStore s r q d) z in
     record {
       answer = x .answer;

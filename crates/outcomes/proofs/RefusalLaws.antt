@@ -7,12 +7,15 @@ use Prim.Native.Nat.{ℕ, zero, suc, _≤_, _<_}
 use native.Mathlib.Omega.{arith}
 use borrow.Author.Tests.{eq-eqb, le-ltb, lt-ltb, ne-eqb}
 use Rattle.wordset.proofs.BelowLaws.{lt-or-le}
-use Rattle.reader.specs.Reader.{refusalOf}
+use Rattle.limits.specs.declared.Limits.{Limits}
+use Rattle.limits.specs.Limits.{refusalUnder}
 use Rattle.frame.specs.SetUp.{SetUp}
 use Rattle.frame.specs.declared.Setup.{Setup}
 use Rattle.outcomes.specs.Outcomes.{namingRefusal, orElse, storeRefusal, tableRefusal}
 use Rattle.fitted.specs.Accepted.{namingsIn}
 use Rattle.fitted.proofs.AcceptedLaws.{namings-are}
+use Rattle.frame.proofs.SetUpLaws.{accepts-by, not-refused}
+use Rattle.prepare.specs.Width.{wordsFor}
 
 -- ---- a number, or the next
 
@@ -45,48 +48,41 @@ store-none n l e = go (lt-or-le l n)
     go (inl h) = let i : _≡_ {A = ℕ} 0 12 = sym e ∙ ap (λ b. cond b 12 0) (lt-ltb l n h) in absurd (omega arith)
     go (inr h) = h
 
-else-zero : (k : ℕ) → orElse k 0 ≡ k
-else-zero zero = refl
-else-zero (suc k) = else-first (suc k) 0 (λ h. omega arith)
-
 -- where the first of them is 0, so is the sheet's own refusal
 pub set-up-zero : {k : ℕ} (l m : ℕ) → k ≡ orElse l m → k ≡ 0 → l ≡ 0
 set-up-zero l m e z = else-none l m (sym e ∙ z) .0
 
 -- where nothing applies to Table
-pub table-none : (s : List ℕ) (r a b : ℕ) → tableRefusal s r a b ≡ 0 → (refusalOf s ≡ 0) × ((4 ≤ a) × (4 ≤ b))
+pub table-none : (L : Limits) (s : List ℕ) (r a b : ℕ) → tableRefusal L s r a b ≡ 0 → (refusalUnder L s ≡ 0) × ((wordsFor (L .lean) ≤ a) × (wordsFor (L .lean) ≤ b))
 unfolding tableRefusal
-table-none s r a b e =
-    let i = else-none (refusalOf s) (orElse (namingRefusal (namingsIn s) r) (orElse (storeRefusal 4 a) (storeRefusal 4 b))) e in
-    let j = else-none (namingRefusal (namingsIn s) r) (orElse (storeRefusal 4 a) (storeRefusal 4 b)) (i .1) in
-    let k = else-none (storeRefusal 4 a) (storeRefusal 4 b) (j .1) in
-    (i .0, (store-none 4 a (k .0), store-none 4 b (k .1)))
-
-pub table-room : (s : List ℕ) (r a b : ℕ) {k : ℕ} → k ≡ tableRefusal s r a b → k ≡ 0 → (4 ≤ a) × (4 ≤ b)
-table-room s r a b e z = table-none s r a b (sym e ∙ z) .1
+table-none L s r a b e =
+    let w = wordsFor (L .lean) in
+    let i = else-none (refusalUnder L s) (orElse (namingRefusal (namingsIn s) r) (orElse (storeRefusal w a) (storeRefusal w b))) e in
+    let j = else-none (namingRefusal (namingsIn s) r) (orElse (storeRefusal w a) (storeRefusal w b)) (i .1) in
+    let k = else-none (storeRefusal w a) (storeRefusal w b) (j .1) in
+    (i .0, (store-none w a (k .0), store-none w b (k .1)))
 
 -- ---- from a set-up
 
-module _ {s : List ℕ} {u : Setup} (x : SetUp s u) where
-  -- what comes after the sheet's own refusals may go by the set-up's number of namings
-  then-naming : (r k : ℕ) → orElse (u .refusal) (orElse (namingRefusal (u .namings) r) k) ≡ orElse (refusalOf s) (orElse (namingRefusal (namingsIn s) r) k)
-  then-naming r k = go (u .refusal) refl
-    where
-      go : (q : ℕ) → u .refusal ≡ q → orElse (u .refusal) (orElse (namingRefusal (u .namings) r) k) ≡ orElse (refusalOf s) (orElse (namingRefusal (namingsIn s) r) k)
-      go zero e = ap (λ n. orElse (u .refusal) (orElse (namingRefusal n r) k)) (namings-are x e) ∙ ap (λ q. orElse q (orElse (namingRefusal (namingsIn s) r) k)) (x .is)
-      go (suc q) e =
-          else-first (u .refusal) (orElse (namingRefusal (u .namings) r) k) (λ i. omega arith)
-          ∙ x .is
-          ∙ sym (else-first (refusalOf s) (orElse (namingRefusal (namingsIn s) r) k) (λ i. let j = x .is in omega arith))
-
-  -- Table's number, call by call
-  pub table-number : (r a b : ℕ) {k l m n o p : ℕ} → k ≡ orElse (u .refusal) l → l ≡ orElse m n → m ≡ namingRefusal (u .namings) r → n ≡ orElse o p → o ≡ storeRefusal 4 a → p ≡ storeRefusal 4 b → k ≡ tableRefusal s r a b
+module _ {L : Limits} {s : List ℕ} {u : Setup} (x : SetUp L s u) where
+  -- the sheet's own refusal is Table's
+  pub table-first : (r a b : ℕ) → (u .refusal ≡ 0 → ⊥) → u .refusal ≡ tableRefusal L s r a b
   unfolding tableRefusal
-  table-number r a b {k} {l} {m} {n} {o} {p} ek el em en eo ep =
+  table-first r a b n = x .is ∙ sym (else-first (refusalUnder L s) _ (λ h. n (x .is ∙ h)))
+
+  -- Table's number after that, call by call
+  pub table-number : u .refusal ≡ 0 → (r a b : ℕ) {k m n o p w : ℕ} → k ≡ orElse m n → m ≡ namingRefusal (u .namings) r → n ≡ orElse o p → w ≡ wordsFor (L .lean) → o ≡ storeRefusal w a → p ≡ storeRefusal w b
+      → k ≡ tableRefusal L s r a b
+  unfolding tableRefusal
+  table-number z r a b ek em en ew eo ep =
       ek
-      ∙ ap (orElse (u .refusal)) (el ∙ ap₂ orElse em (en ∙ ap₂ orElse eo ep))
-      ∙ then-naming r (orElse (storeRefusal 4 a) (storeRefusal 4 b))
+      ∙ ap₂ orElse (em ∙ ap (λ n. namingRefusal n r) (namings-are (accepts-by x z))) (en ∙ ap₂ orElse (eo ∙ ap (λ w. storeRefusal w a) ew) (ep ∙ ap (λ w. storeRefusal w b) ew))
+      ∙ sym (else-next (refusalUnder L s) _ (not-refused x z))
 
   -- List's, before its store is looked at
-  pub naming-number : (r : ℕ) {k m : ℕ} → k ≡ orElse (u .refusal) m → m ≡ namingRefusal (u .namings) r → k ≡ orElse (refusalOf s) (namingRefusal (namingsIn s) r)
-  naming-number r ek em = ek ∙ ap (orElse (u .refusal)) (em ∙ sym (else-zero (namingRefusal (u .namings) r))) ∙ then-naming r 0 ∙ ap (orElse (refusalOf s)) (else-zero (namingRefusal (namingsIn s) r))
+  pub naming-number : (r : ℕ) {k m : ℕ} → k ≡ orElse (u .refusal) m → m ≡ namingRefusal (u .namings) r → k ≡ orElse (refusalUnder L s) (namingRefusal (namingsIn s) r)
+  naming-number r {k} {m} ek em = go (u .refusal) refl
+    where
+      go : (q : ℕ) → u .refusal ≡ q → k ≡ orElse (refusalUnder L s) (namingRefusal (namingsIn s) r)
+      go zero e = ek ∙ ap₂ orElse (x .is) (em ∙ ap (λ n. namingRefusal n r) (namings-are (accepts-by x e)))
+      go (suc q) e = ek ∙ else-first (u .refusal) m (λ i. omega arith) ∙ x .is ∙ sym (else-first (refusalUnder L s) (namingRefusal (namingsIn s) r) (λ i. let j = x .is in omega arith))

@@ -22,8 +22,10 @@ use Rattle.wordset.specs.Words.{packed}
 use Rattle.layout.specs.Layout.{lineOf}
 use Rattle.head.specs.Head.{kindsOf, namesOf}
 use Rattle.sheet.specs.Reading.{formulas, globalsOf, goalOf}
-use Rattle.reader.specs.Reader.{refusalOf}
+use Rattle.limits.specs.declared.Limits.{Limits}
+use Rattle.limits.specs.Limits.{refusalUnder}
 use Rattle.prepare.specs.Prepared.{tableauIn}
+use Rattle.prepare.specs.Width.{wordsFor}
 use Rattle.booking.specs.Booked.{tablesBy}
 use Rattle.evaluator.specs.Rows.{rowOf}
 use Rattle.snapshot_text.specs.Lines.{lineStore}
@@ -47,7 +49,7 @@ moved {f = f} {l = l} e h q = q ∙ sym (h l) ∙ ap f (sym e)
 
 -- document 01's W of a tableau
 abbrev wordsBy : Tableau → ℕ
-wordsBy T = max 1 (2 ^ length (T .ln) / 64)
+wordsBy T = wordsFor (length (T .ln))
 
 -- the globals and the goal of formulas in positive form
 abbrev front : List Form → List Form
@@ -100,27 +102,30 @@ module _ {s t : List ℕ} (x : SameSheet s t) where
 
   -- ---- the operations
 
-  module _ (a : refusalOf t ≡ refusalOf s) where
-    table-number : (r m n : ℕ) → tableRefusal t r m n ≡ tableRefusal s r m n
-    unfolding tableRefusal
-    table-number r m n = ap₂ (λ k T. orElse k (orElse (namingRefusal (namings T) r) (orElse (storeRefusal 4 m) (storeRefusal 4 n)))) a same-tableau
+  table-told : (r k : ℕ) → tableAnswer t r k ≡ tableAnswer s r k
+  unfolding wordsIn
+  table-told r zero = ap (λ T. Table.Done (wordsBy T) (length (startTypes T r)) (length (survivingTypes T r)) (roundsOf T r)) same-tableau
+  table-told r (suc k) = refl
 
-    table-told : (r k : ℕ) → tableAnswer t r k ≡ tableAnswer s r k
-    unfolding wordsIn
-    table-told r zero = ap (λ T. Table.Done (wordsBy T) (length (startTypes T r)) (length (survivingTypes T r)) (roundsOf T r)) same-tableau
-    table-told r (suc k) = refl
+  table-left : (r : ℕ) (d : List ℕ) (k : ℕ) → tableStore t r k d ≡ tableStore s r k d
+  unfolding holding wordsIn
+  table-left r d zero = ap (λ T. packed (wordsBy T) (λ u. elem u (survivingTypes T r)) d) same-tableau
+  table-left r d (suc k) = refl
 
-    table-left : (r : ℕ) (d : List ℕ) (k : ℕ) → tableStore t r k d ≡ tableStore s r k d
-    unfolding holding wordsIn
-    table-left r d zero = ap (λ T. packed (wordsBy T) (λ u. elem u (survivingTypes T r)) d) same-tableau
-    table-left r d (suc k) = refl
+  -- where the number is the same
+  pub same-tabled : {K L : Limits} {r : ℕ} {d e d′ e′ : List ℕ} {o : TableAnswer} → tableRefusal K t r (length d) (length e) ≡ tableRefusal L s r (length d) (length e) → TableIs L s r d e o d′ e′ → TableIs K t r d e o d′ e′
+  same-tabled {r = r} {d} {e} k h = record { answer = moved k (table-told r) (h .answer); first-holds = moved k (table-left r d) (h .first-holds); second-holds = moved k (table-left r e) (h .second-holds) }
 
-    pub same-table : {r : ℕ} {d e d′ e′ : List ℕ} {o : TableAnswer} → TableIs s r d e o d′ e′ → TableIs t r d e o d′ e′
-    same-table {r} {d} {e} h =
-        let k = table-number r (length d) (length e) in
-        record { answer = moved k (table-told r) (h .answer); first-holds = moved k (table-left r d) (h .first-holds); second-holds = moved k (table-left r e) (h .second-holds) }
+  table-number : (L : Limits) → refusalUnder L t ≡ refusalUnder L s → (r m n : ℕ) → tableRefusal L t r m n ≡ tableRefusal L s r m n
+  unfolding tableRefusal
+  table-number L a r m n = ap₂ (λ k T. orElse k (orElse (namingRefusal (namings T) r) (orElse (storeRefusal (wordsFor (L .lean)) m) (storeRefusal (wordsFor (L .lean)) n)))) a same-tableau
 
-    book-number : (n : ℕ) → bookRefusal t n ≡ bookRefusal s n
+  pub same-table : (L : Limits) → refusalUnder L t ≡ refusalUnder L s → {r : ℕ} {d e d′ e′ : List ℕ} {o : TableAnswer} → TableIs L s r d e o d′ e′ → TableIs L t r d e o d′ e′
+  same-table L a {r} {d} {e} = same-tabled (table-number L a r (length d) (length e))
+
+  -- the others ask nothing of their stores that goes by the limits, so these may differ
+  module _ (K L : Limits) (a : refusalUnder K t ≡ refusalUnder L s) where
+    book-number : (n : ℕ) → bookRefusal K t n ≡ bookRefusal L s n
     unfolding bookRefusal wordsIn
     book-number n = ap₂ (λ k T. orElse k (storeRefusal (namings T * wordsBy T) n)) a same-tableau
 
@@ -134,10 +139,10 @@ module _ {s t : List ℕ} (x : SameSheet s t) where
     book-left d zero = ap (λ T. tablesBy (wordsBy T) (λ r u. elem u (survivingTypes T r)) (namings T) ++ drop (namings T * wordsBy T) d) same-tableau
     book-left d (suc k) = refl
 
-    pub same-book : {d d′ : List ℕ} {o : BookAnswer} → BookIs s d o d′ → BookIs t d o d′
+    pub same-book : {d d′ : List ℕ} {o : BookAnswer} → BookIs L s d o d′ → BookIs K t d o d′
     same-book {d} h = let k = book-number (length d) in record { answer = moved k book-told (h .answer); store-holds = moved k (book-left d) (h .store-holds) }
 
-    list-number : (r n : ℕ) → listRefusal t r n ≡ listRefusal s r n
+    list-number : (r n : ℕ) → listRefusal K t r n ≡ listRefusal L s r n
     unfolding listRefusal
     list-number r n = ap₂ (λ k T. orElse k (orElse (namingRefusal (namings T) r) (storeRefusal (length (survivingTypes T r)) n))) a same-tableau
 
@@ -150,7 +155,7 @@ module _ {s t : List ℕ} (x : SameSheet s t) where
     list-left r d zero = ap (λ T. sort (fewestFirst (length (T .ln))) (survivingTypes T r) ++ drop (length (survivingTypes T r)) d) same-tableau
     list-left r d (suc k) = refl
 
-    pub same-list : {r : ℕ} {d d′ : List ℕ} {o : ListAnswer} → ListIs s r d o d′ → ListIs t r d o d′
+    pub same-list : {r : ℕ} {d d′ : List ℕ} {o : ListAnswer} → ListIs L s r d o d′ → ListIs K t r d o d′
     same-list {r} {d} h = let k = list-number r (length d) in record { answer = moved k (list-told r) (h .answer); store-holds = moved k (list-left r d) (h .store-holds) }
 
     verdict-told : (k : ℕ) → verdictAnswer t k ≡ verdictAnswer s k
@@ -158,9 +163,9 @@ module _ {s t : List ℕ} (x : SameSheet s t) where
     verdict-told zero = ap₂ (λ T p. verdictBy (Ctl.verdict T p)) same-tableau same-goal
     verdict-told (suc k) = refl
 
-    pub same-verdict : verdictOf t ≡ verdictOf s
+    pub same-verdict : verdictOf K t ≡ verdictOf L s
     unfolding verdictOf
-    same-verdict = ap (verdictAnswer t) a ∙ verdict-told (refusalOf s)
+    same-verdict = ap (verdictAnswer t) a ∙ verdict-told (refusalUnder L s)
 
     snapshot-read : (u : List ℕ) → snapshotRead t u ≡ snapshotRead s u
     snapshot-read u = ap₂ (λ l m. readSnapshot l (kindsOf m) u (replicate 128 0)) (x .line-one) (x .line-two)
@@ -168,7 +173,7 @@ module _ {s t : List ℕ} (x : SameSheet s t) where
     entries-same : (u : List ℕ) → entriesIn t u ≡ entriesIn s u
     entries-same u = ap₂ (λ l m. lineStore l (length (kindsOf m)) u (replicate 128 0)) (x .line-one) (x .line-two)
 
-    snapshot-number : (u : List ℕ) (n : ℕ) → snapshotRefusal t u n ≡ snapshotRefusal s u n
+    snapshot-number : (u : List ℕ) (n : ℕ) → snapshotRefusal K t u n ≡ snapshotRefusal L s u n
     unfolding snapshotRefusal
     snapshot-number u n = ap₂ (λ k q. orElse k (rowRefusal q n)) a (snapshot-read u)
 
@@ -183,5 +188,5 @@ module _ {s t : List ℕ} (x : SameSheet s t) where
     row-left u row zero = ap (λ q. rowIn t u (nodesOf q) ++ drop (nodesOf q) row) (snapshot-read u) ∙ ap (λ l. l ++ drop (nodesOf (snapshotRead s u)) row) (row-same u (nodesOf (snapshotRead s u)))
     row-left u row (suc k) = refl
 
-    pub same-snapshot : {u row row′ : List ℕ} {o : SnapshotAnswer} → SnapshotIs s u row o row′ → SnapshotIs t u row o row′
+    pub same-snapshot : {u row row′ : List ℕ} {o : SnapshotAnswer} → SnapshotIs L s u row o row′ → SnapshotIs K t u row o row′
     same-snapshot {u} {row} h = let k = snapshot-number u (length row) in record { answer = moved k (snapshot-told u) (h .answer); row-holds = moved k (row-left u row) (h .row-holds) }

@@ -31,8 +31,10 @@ use Rattle.snapshot_text.specs.Text.{Text}
 use Rattle.snapshot.specs.declared.Answer.{Answer}
 use Rattle.snapshot.specs.declared.Answer.the-variants as Reading
 use Rattle.truth.specs.Tables.{Table, form}
-use Rattle.reader.proofs.NumberLaws.{within-zero}
-use Rattle.reader.specs.Reader.{ReadIs, numberOf, refusalOf}
+use Rattle.reader.specs.Reader.{numberOf}
+use Rattle.limits.specs.declared.Limits.{Limits}
+use Rattle.limits.specs.Limits.{ReadUnder, refusalUnder}
+use Rattle.limits.proofs.LimitLaws.{accepted-read}
 use Rattle.reader.specs.declared.Reading as Reader
 use Rattle.prepare.proofs.Bridge.{formulas-some, global-inside, globals-map, goal, goal-inside, table, table-length}
 use Rattle.prepare.specs.Prepared.{kindsOf, tableOf}
@@ -48,12 +50,12 @@ whole = omega arith
 
 -- ---- the text under an accepted sheet
 
-module _ (s : List ℕ) (z : refusalOf s ≡ 0) where
+module _ (L : Limits) (s : List ℕ) (z : refusalUnder L s ≡ 0) where
   some-kinds : 1 ≤ length (kinds s)
-  some-kinds = let r = within-zero 64 8 s z in let a = right-kinds s r in let b = some-symbols s r in omega arith
+  some-kinds = let r = accepted-read L s z in let a = right-kinds s r in let b = some-symbols s r in omega arith
 
   pub few-kinds : length (kinds s) ≤ 8
-  few-kinds = let r = within-zero 64 8 s z in let a = right-kinds s r in let b = sheet-spellings s .few in omega arith
+  few-kinds = let r = accepted-read L s z in let a = right-kinds s r in let b = sheet-spellings s .few in omega arith
 
   pub reads-as : (t : List ℕ) → Answered (lineOf s 0) (kinds s) t (entriesIn s t) (snapshotRead s t)
   reads-as t = answered (lineOf s 0) (kinds s) t some-kinds few-kinds
@@ -68,26 +70,26 @@ refused-some (of-nodes n h) e i = let j : _≡_ {A = ℕ} 0 1 = cc in omega arit
 
 -- ---- a refusal leaves the row alone
 
-refused-by : {s t : List ℕ} {k : ℕ} (row : List ℕ) → k ≡ snapshotRefusal s t (length row) → (k ≡ 0 → ⊥) → SnapshotIs s t row (Refused k) row
-refused-by {s} {t} {k} row e n = record {
+refused-by : {L : Limits} {s t : List ℕ} {k : ℕ} (row : List ℕ) → k ≡ snapshotRefusal L s t (length row) → (k ≡ 0 → ⊥) → SnapshotIs L s t row (Refused k) row
+refused-by {L} {s} {t} {k} row e n = record {
   answer = refused-case Refused (snapshotAnswer s t) (λ q. refl) k n ∙ ap (snapshotAnswer s t) e;
   row-holds = refused-case (λ q. row) (λ q. snapshotRow s t q row) (λ q. refl) k n ∙ ap (λ q. snapshotRow s t q row) e;
 }
 
 -- ---- call by call
 
-module _ {s : List ℕ} {r : Reader.Reading} (x : ReadIs 64 8 s r) {k : ℕ} (e : k ≡ numberOf (r .refusal)) where
-  pub snapshot-refused : (t row : List ℕ) → (k ≡ 0 → ⊥) → SnapshotIs s t row (Refused k) row
+module _ {L : Limits} {s : List ℕ} {r : Reader.Reading} (x : ReadUnder L s r) {k : ℕ} (e : k ≡ numberOf (r .refusal)) where
+  pub snapshot-refused : (t row : List ℕ) → (k ≡ 0 → ⊥) → SnapshotIs L s t row (Refused k) row
   unfolding snapshotRefusal
-  snapshot-refused t row n = refused-by row (e ∙ x .is ∙ sym (else-first (refusalOf s) (rowRefusal (snapshotRead s t) (length row)) (λ h. n (e ∙ x .is ∙ h)))) n
+  snapshot-refused t row n = refused-by row (e ∙ x .is ∙ sym (else-first (refusalUnder L s) (rowRefusal (snapshotRead s t) (length row)) (λ h. n (e ∙ x .is ∙ h)))) n
 
   module _ (z : k ≡ 0) where
-    number-is : (t : List ℕ) (l : ℕ) {a : Answer} → a ≡ snapshotRead s t → snapshotRefusal s t l ≡ rowRefusal a l
+    number-is : (t : List ℕ) (l : ℕ) {a : Answer} → a ≡ snapshotRead s t → snapshotRefusal L s t l ≡ rowRefusal a l
     unfolding snapshotRefusal
-    number-is t l i = else-next (refusalOf s) (rowRefusal (snapshotRead s t) l) (zero-is x e z) ∙ ap (λ a. rowRefusal a l) (sym i)
+    number-is t l i = else-next (refusalUnder L s) (rowRefusal (snapshotRead s t) l) (zero-is x e z) ∙ ap (λ a. rowRefusal a l) (sym i)
 
     pub kinds-few : length (kindsOf r) ≤ 8
-    kinds-few = subst (λ l. length l ≤ 8) (sym (says x e z .kinds-are)) (few-kinds s (zero-is x e z))
+    kinds-few = subst (λ l. length l ≤ 8) (sym (says x e z .kinds-are)) (few-kinds L s (zero-is x e z))
 
     pub some-formula : 1 ≤ r .formulas
     some-formula = let a = formulas-some s (right x e z) in let b = says x e z .many in omega arith
@@ -106,15 +108,15 @@ module _ {s : List ℕ} {r : Reader.Reading} (x : ReadIs 64 8 s r) {k : ℕ} (e 
       store-is : out′ ≡ entriesIn s t
       store-is = y .1 .0 ∙ ap₂ (λ l ks. lineStore l (length ks) t (replicate 128 0)) first-line (says x e z .kinds-are)
 
-      pub text-refused : (row : List ℕ) {q : ℕ} → a ≡ Reading.Refused q → SnapshotIs s t row (Refused q) row
+      pub text-refused : (row : List ℕ) {q : ℕ} → a ≡ Reading.Refused q → SnapshotIs L s t row (Refused q) row
       text-refused row {q} j =
-          refused-by row (sym (number-is t (length row) (sym j ∙ read-is))) (refused-some (reads-as s (zero-is x e z) t) (sym read-is ∙ j))
+          refused-by row (sym (number-is t (length row) (sym j ∙ read-is))) (refused-some (reads-as L s (zero-is x e z) t) (sym read-is ∙ j))
 
       module _ {n : ℕ} (j : a ≡ Reading.Nodes n) where
         pub nodes-few : n ≤ 16
         nodes-few = subst Few j (y .1 .1)
 
-        pub row-short : (row : List ℕ) → length row < n → SnapshotIs s t row (Refused 16) row
+        pub row-short : (row : List ℕ) → length row < n → SnapshotIs L s t row (Refused 16) row
         row-short row h = refused-by row (sym (number-is t (length row) (sym j ∙ read-is) ∙ ap (λ b. cond b 16 0) (lt-ltb (length row) n h))) (λ q. omega arith)
 
         pub fill-asked : (row : List ℕ) → length out′ ≡ 128 → length (r .members) ≡ 136 → length (r .places) ≡ 5 → n ≤ length row
@@ -138,10 +140,10 @@ module _ {s : List ℕ} {r : Reader.Reading} (x : ReadIs 64 8 s r) {k : ℕ} (e 
 
         pub snapshot-done : (row row′ : List ℕ) → length (r .places) ≡ 5 → n ≤ length row
             → row′ ≡ rowOf (ofStore n out′) (form (tableOf r) (getD (r .places) (r .formulas - 1) 0)) (map (form (tableOf r)) (take (r .formulas - 1) (r .places))) ++ drop n row
-            → SnapshotIs s t row (Done n) row′
+            → SnapshotIs L s t row (Done n) row′
         snapshot-done row row′ c h i =
             let nodes : Reading.Nodes n ≡ snapshotRead s t = sym j ∙ read-is in
-            let none : snapshotRefusal s t (length row) ≡ 0 = number-is t (length row) nodes ∙ ap (λ b. cond b 16 0) (le-ltb (length row) n h) in
+            let none : snapshotRefusal L s t (length row) ≡ 0 = number-is t (length row) nodes ∙ ap (λ b. cond b 16 0) (le-ltb (length row) n h) in
             let many : n ≡ nodesOf (snapshotRead s t) = ap nodesOf nodes in
             let sy = says x e z in
             let globals : map (form (tableOf r)) (take (r .formulas - 1) (r .places)) ≡ map positive (globalsOf (formulas s)) =
@@ -156,7 +158,7 @@ module _ {s : List ℕ} {r : Reader.Reading} (x : ReadIs 64 8 s r) {k : ℕ} (e 
 
 -- ---- what it means
 
-module _ (s t : List ℕ) where
+module _ (L : Limits) (s t : List ℕ) where
   -- the bits of the row of n nodes, where the store holds these lines
   bits : (lines : List (List ℕ)) (n : ℕ) (row : List ℕ) → length lines ≡ n → ofStore n (entriesIn s t) ≡ ofLines lines → RowMeans s lines (rowIn s t n ++ drop n row)
   unfolding ofStore
@@ -180,22 +182,22 @@ module _ (s t : List ℕ) where
       globals-at : (i : ℕ) → i < length lines → (2 ≤ getD (rowIn s t n) i 0) ↔ ((g : Raw) → g ∈ Gs → HoldsRaw (ofLines lines) g i)
       globals-at i h = subst (λ q. (2 ≤ getD (rowIn s t n) i 0) ↔ ((g : Raw) → g ∈ Gs → HoldsRaw q g i)) same (globals-bit (ofStore n (entriesIn s t)) G Gs i (omega arith))
 
-  pub snapshot-means : {row : List ℕ} {o : SnapshotAnswer} {row′ : List ℕ} → SnapshotIs s t row o row′ → SnapshotMeans s t o row′
+  pub snapshot-means : {row : List ℕ} {o : SnapshotAnswer} {row′ : List ℕ} → SnapshotIs L s t row o row′ → SnapshotMeans L s t o row′
   unfolding snapshotRefusal
-  snapshot-means {row} {o} {row′} x = record { reads = λ z. reads-as s z t; judges = λ n e. go (snapshotRefusal s t (length row)) refl n (sym e ∙ x .answer) (x .row-holds) }
+  snapshot-means {row} {o} {row′} x = record { reads = λ z. reads-as L s z t; judges = λ n e. go (snapshotRefusal L s t (length row)) refl n (sym e ∙ x .answer) (x .row-holds) }
     where
       Judges : ℕ → Type 0
       Judges n = (lines : List (List ℕ)) × Text (lineOf s 0) (length (kinds s)) t lines × (length lines ≡ n) × Legal (isName s) (valuesIn s) (ofLines lines) × RowMeans s lines row′
 
       -- the text was read as n nodes
-      of-read : (a : Answer) → snapshotRead s t ≡ a → refusalOf s ≡ 0 → rowRefusal a (length row) ≡ 0 → (n : ℕ) → n ≡ nodesOf a → row′ ≡ rowIn s t (nodesOf a) ++ drop (nodesOf a) row → Judges n
-      of-read (Reading.Refused q) i z none n e r = absurd (refused-some (reads-as s z t) i none)
+      of-read : (a : Answer) → snapshotRead s t ≡ a → refusalUnder L s ≡ 0 → rowRefusal a (length row) ≡ 0 → (n : ℕ) → n ≡ nodesOf a → row′ ≡ rowIn s t (nodesOf a) ++ drop (nodesOf a) row → Judges n
+      of-read (Reading.Refused q) i z none n e r = absurd (refused-some (reads-as L s z t) i none)
       of-read (Reading.Nodes m) i z none n e r =
-          let h = nodes-held (subst (Answered (lineOf s 0) (kinds s) t (entriesIn s t)) i (reads-as s z t)) in
+          let h = nodes-held (subst (Answered (lineOf s 0) (kinds s) t (entriesIn s t)) i (reads-as L s z t)) in
           (h .lines, h .text, h .count ∙ sym e, h .legal, subst (RowMeans s (h .lines)) (sym r) (bits (h .lines) m row (h .count) (h .same)))
 
-      go : (k : ℕ) → snapshotRefusal s t (length row) ≡ k → (n : ℕ) → Done n ≡ snapshotAnswer s t k → row′ ≡ snapshotRow s t k row → Judges n
+      go : (k : ℕ) → snapshotRefusal L s t (length row) ≡ k → (n : ℕ) → Done n ≡ snapshotAnswer s t k → row′ ≡ snapshotRow s t k row → Judges n
       go zero z n a r =
-          let i = else-none (refusalOf s) (rowRefusal (snapshotRead s t) (length row)) z in
+          let i = else-none (refusalUnder L s) (rowRefusal (snapshotRead s t) (length row)) z in
           of-read (snapshotRead s t) refl (i .0) (i .1) n (let m : n ≡ nodesOf (snapshotRead s t) = cc in m) r
       go (suc k) z n a r = absurd (let i : _≡_ {A = ℕ} 0 1 = cc in omega arith)

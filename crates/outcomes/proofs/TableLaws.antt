@@ -8,6 +8,7 @@ use borrow.Author.Tests.{eq-eqb, ne-eqb}
 use Rattle.ctl.specs.Tableau.{startTypes}
 use Rattle.ctl.specs.Verdict.{survivingTypes}
 use Rattle.tableau.specs.declared.table.Counts.{Counts}
+use Rattle.limits.specs.declared.Limits.{Limits}
 use Rattle.prepare.specs.Prepared.{tableauIn}
 use Rattle.outcomes.specs.declared.TableAnswer.{TableAnswer}
 use Rattle.outcomes.specs.declared.TableAnswer.the-variants.{Done, Refused}
@@ -15,20 +16,20 @@ use Rattle.outcomes.specs.Outcomes.{TableIs, partOf, placeOf, tableAnswe
 use Rattle.fitted.specs.Accepted.{TabledIn, holding, wordsIn}
 use Rattle.outcomes.proofs.RefusalLaws.{refused-case}
 
-module _ (s : List ℕ) (r : ℕ) where
-  pub table-refused : {k : ℕ} (first second : List ℕ) → k ≡ tableRefusal s r (length first) (length second) → (k ≡ 0 → ⊥) → TableIs s r first second (Refused k) first second
+module _ (L : Limits) (s : List ℕ) (r : ℕ) where
+  pub table-refused : {k : ℕ} (first second : List ℕ) → k ≡ tableRefusal L s r (length first) (length second) → (k ≡ 0 → ⊥) → TableIs L s r first second (Refused k) first second
   table-refused {k} first second e n = record {
     answer = refused-case Refused (tableAnswer s r) (λ q. refl) k n ∙ ap (tableAnswer s r) e;
     first-holds = refused-case (λ q. first) (λ q. tableStore s r q first) (λ q. refl) k n ∙ ap (λ q. tableStore s r q first) e;
     second-holds = refused-case (λ q. second) (λ q. tableStore s r q second) (λ q. refl) k n ∙ ap (λ q. tableStore s r q second) e;
   }
 
-  pub table-done : (first second : List ℕ) {k w : ℕ} {first′ second′ : List ℕ} {c : Counts} → k ≡ tableRefusal s r (length first) (length second) → k ≡ 0 → w ≡ wordsIn s
+  pub table-done : (first second : List ℕ) {k w : ℕ} {first′ second′ : List ℕ} {c : Counts} → k ≡ tableRefusal L s r (length first) (length second) → k ≡ 0 → w ≡ wordsIn s
       → TabledIn s r first second first′ second′ c
-      → TableIs s r first second (Done w (c .start) (c .left) (c .rounds)) first′ second′
+      → TableIs L s r first second (Done w (c .start) (c .left) (c .rounds)) first′ second′
   unfolding holding
   table-done first second {k} {w} {first′} {second′} {c} e z ew t =
-      let none : 0 ≡ tableRefusal s r (length first) (length second) = sym z ∙ e in
+      let none : 0 ≡ tableRefusal L s r (length first) (length second) = sym z ∙ e in
       record {
         answer = (ap (λ q. Done q (c .start) (c .left) (c .rounds)) ew ∙ ap (λ q. Done (wordsIn s) q (c .left) (c .rounds)) (t .started)
             ∙ ap (λ q. Done (wordsIn s) (length (startTypes (tableauIn s) r)) q (c .rounds)) (t .left-over)

@@ -1,4 +1,5 @@
--- What each operation answers and leaves, from its arguments: the sheet's bytes, the number of a naming, and the stores as they were. Assumes nothing.
+-- What each operation answers and leaves, from its arguments: the limits, the sheet's bytes, the number of a naming, and the stores as they were. Of an operation without limits they are
+-- document 01's (`limits` Limits, usual). Assumes nothing.
 use mathlib.Core.Path.{_≡_}
 use mathlib.Core.Bool.{cond}
 use mathlib.Core.List.{List, [], _++_, map}
@@ -12,8 +13,10 @@ use Rattle.ctl.specs.Verdict.{roundsOf}
 use Rattle.layout.specs.Layout.{lineOf}
 use Rattle.head.specs.Head.{kinds}
 use Rattle.sheet.specs.Reading.{formulas, globalsOf, goalOf}
-use Rattle.reader.specs.Reader.{refusalOf}
+use Rattle.limits.specs.declared.Limits.{Limits}
+use Rattle.limits.specs.Limits.{refusalUnder}
 use Rattle.prepare.specs.Prepared.{tableauIn}
+use Rattle.prepare.specs.Width.{wordsFor}
 use Rattle.evaluator.specs.Rows.{rowOf}
 use Rattle.fitted.specs.Accepted.{bookIn, holding, listedIn, namingsIn, survivorsIn, verdictIn, wordsIn}
 use Rattle.clean.specs.Clean.{cleanText, cleanWrong}
@@ -35,7 +38,7 @@ use Rattle.outcomes.specs.declared.SnapshotAnswer.the-variants as Judged
 use Rattle.outcomes.specs.declared.VerdictAnswer.{VerdictAnswer}
 use Rattle.outcomes.specs.declared.VerdictAnswer.the-variants as Judging
 
--- ---- refusals: the first that applies, in the order of their numbers but for 17, which is asked before 16, and for 18, which comes after 10
+-- ---- refusals: the first that applies, in the order of their numbers but for 17, which is asked before 16, for 18, which comes after 10, and for 19, which is the first of all
 
 -- a number, or the next where it is 0
 abbrev pub orElse : ℕ → ℕ → ℕ
@@ -49,15 +52,18 @@ namingRefusal n r = cond (ltb r n) 0 11
 abbrev pub storeRefusal : ℕ → ℕ → ℕ
 storeRefusal needed long = cond (ltb long needed) 12 0
 
-unfoldable pub tableRefusal : List ℕ → ℕ → ℕ → ℕ → ℕ
-tableRefusal s r a b = orElse (refusalOf s) (orElse (namingRefusal (namingsIn s) r) (orElse (storeRefusal 4 a) (storeRefusal 4 b)))
+-- each store of Table has room for the types over as many places as the limit allows, whatever the sheet needs
+unfoldable pub tableRefusal : Limits → List ℕ → ℕ → ℕ → ℕ → ℕ
+unfolding refusalUnder wordsFor
+tableRefusal l s r a b = orElse (refusalUnder l s) (orElse (namingRefusal (namingsIn s) r) (orElse (storeRefusal (wordsFor (l .lean)) a) (storeRefusal (wordsFor (l .lean)) b)))
 
-unfoldable pub bookRefusal : List ℕ → ℕ → ℕ
-unfolding wordsIn
-bookRefusal s d = orElse (refusalOf s) (storeRefusal (namingsIn s * wordsIn s) d)
+unfoldable pub bookRefusal : Limits → List ℕ → ℕ → ℕ
+unfolding refusalUnder wordsIn
+bookRefusal l s d = orElse (refusalUnder l s) (storeRefusal (namingsIn s * wordsIn s) d)
 
-unfoldable pub listRefusal : List ℕ → ℕ → ℕ → ℕ
-listRefusal s r d = orElse (refusalOf s) (orElse (namingRefusal (namingsIn s) r) (storeRefusal (length (survivorsIn s r)) d))
+unfoldable pub listRefusal : Limits → List ℕ → ℕ → ℕ → ℕ
+unfolding refusalUnder
+listRefusal l s r d = orElse (refusalUnder l s) (orElse (namingRefusal (namingsIn s) r) (storeRefusal (length (survivorsIn s r)) d))
 
 -- ---- Table
 
@@ -70,10 +76,10 @@ abbrev pub tableStore : List ℕ → ℕ → ℕ → List ℕ → List ℕ
 tableStore s r zero d = holding s r d
 tableStore s r (suc k) d = d
 
-pub record TableIs (s : List ℕ) (r : ℕ) (first second : List ℕ) (o : TableAnswer) (first′ second′ : List ℕ) : Type 0 where
-  pub answer : o ≡ tableAnswer s r (tableRefusal s r (length first) (length second))
-  pub first-holds : first′ ≡ tableStore s r (tableRefusal s r (length first) (length second)) first
-  pub second-holds : second′ ≡ tableStore s r (tableRefusal s r (length first) (length second)) second
+pub record TableIs (l : Limits) (s : List ℕ) (r : ℕ) (first second : List ℕ) (o : TableAnswer) (first′ second′ : List ℕ) : Type 0 where
+  pub answer : o ≡ tableAnswer s r (tableRefusal l s r (length first) (length second))
+  pub first-holds : first′ ≡ tableStore s r (tableRefusal l s r (length first) (length second)) first
+  pub second-holds : second′ ≡ tableStore s r (tableRefusal l s r (length first) (length second)) second
 
 -- The part handed back: the first W words of the store that was written last. Round 1 writes the second, each round the other, and the last round, which eliminates
 -- nothing, is the one after `rounds`: so it is the second if they are even. Empty with a refusal
@@ -97,9 +103,9 @@ abbrev pub bookStore : List ℕ → ℕ → List ℕ → List ℕ
 bookStore s zero d = bookIn s d
 bookStore s (suc k) d = d
 
-pub record BookIs (s d : List ℕ) (o : BookAnswer) (d′ : List ℕ) : Type 0 where
-  pub answer : o ≡ bookAnswer s (bookRefusal s (length d))
-  pub store-holds : d′ ≡ bookStore s (bookRefusal s (length d)) d
+pub record BookIs (l : Limits) (s d : List ℕ) (o : BookAnswer) (d′ : List ℕ) : Type 0 where
+  pub answer : o ≡ bookAnswer s (bookRefusal l s (length d))
+  pub store-holds : d′ ≡ bookStore s (bookRefusal l s (length d)) d
 
 -- ---- List
 
@@ -112,9 +118,9 @@ abbrev pub listStore : List ℕ → ℕ → ℕ → List ℕ → List ℕ
 listStore s r zero d = listedIn s r ++ drop (length (survivorsIn s r)) d
 listStore s r (suc k) d = d
 
-pub record ListIs (s : List ℕ) (r : ℕ) (d : List ℕ) (o : ListAnswer) (d′ : List ℕ) : Type 0 where
-  pub answer : o ≡ listAnswer s r (listRefusal s r (length d))
-  pub store-holds : d′ ≡ listStore s r (listRefusal s r (length d)) d
+pub record ListIs (l : Limits) (s : List ℕ) (r : ℕ) (d : List ℕ) (o : ListAnswer) (d′ : List ℕ) : Type 0 where
+  pub answer : o ≡ listAnswer s r (listRefusal l s r (length d))
+  pub store-holds : d′ ≡ listStore s r (listRefusal l s r (length d)) d
 
 -- ---- Verdict
 
@@ -127,16 +133,16 @@ abbrev pub verdictAnswer : List ℕ → ℕ → VerdictAnswer
 verdictAnswer s zero = verdictBy (verdictIn s)
 verdictAnswer s (suc k) = Judging.Refused (suc k)
 
-unfoldable pub verdictOf : List ℕ → VerdictAnswer
-unfolding verdictIn
-verdictOf s = verdictAnswer s (refusalOf s)
+unfoldable pub verdictOf : Limits → List ℕ → VerdictAnswer
+unfolding refusalUnder verdictIn
+verdictOf l s = verdictAnswer s (refusalUnder l s)
 
 -- ---- Clean
 
--- 18, after 1 to 10: a line or the text is too long, or the store too short
-unfoldable pub cleanRefusal : List ℕ → ℕ → ℕ
-unfolding cleanWrong
-cleanRefusal s long = orElse (refusalOf s) (cond (cleanWrong s long) 18 0)
+-- 18, after 10: a line or the text is too long, or the store too short
+unfoldable pub cleanRefusal : Limits → List ℕ → ℕ → ℕ
+unfolding refusalUnder cleanWrong
+cleanRefusal l s long = orElse (refusalUnder l s) (cond (cleanWrong s long) 18 0)
 
 abbrev pub cleanAnswer : List ℕ → ℕ → CleanAnswer
 cleanAnswer s zero = Cleaned.Done (length (cleanText s))
@@ -147,9 +153,9 @@ abbrev pub cleanStore : List ℕ → ℕ → List ℕ → List ℕ
 cleanStore s zero d = cleanText s ++ drop (length (cleanText s)) d
 cleanStore s (suc k) d = d
 
-pub record CleanIs (s d : List ℕ) (o : CleanAnswer) (d′ : List ℕ) : Type 0 where
-  pub answer : o ≡ cleanAnswer s (cleanRefusal s (length d))
-  pub store-holds : d′ ≡ cleanStore s (cleanRefusal s (length d)) d
+pub record CleanIs (l : Limits) (s d : List ℕ) (o : CleanAnswer) (d′ : List ℕ) : Type 0 where
+  pub answer : o ≡ cleanAnswer s (cleanRefusal l s (length d))
+  pub store-holds : d′ ≡ cleanStore s (cleanRefusal l s (length d)) d
 
 -- ---- Snapshot
 
@@ -169,9 +175,9 @@ abbrev pub rowRefusal : Answer → ℕ → ℕ
 rowRefusal (Reading.Refused k) long = k
 rowRefusal (Reading.Nodes n) long = cond (ltb long n) 16 0
 
-unfoldable pub snapshotRefusal : List ℕ → List ℕ → ℕ → ℕ
-unfolding readSnapshot
-snapshotRefusal s t long = orElse (refusalOf s) (rowRefusal (snapshotRead s t) long)
+unfoldable pub snapshotRefusal : Limits → List ℕ → List ℕ → ℕ → ℕ
+unfolding refusalUnder readSnapshot
+snapshotRefusal l s t long = orElse (refusalUnder l s) (rowRefusal (snapshotRead s t) long)
 
 abbrev pub snapshotAnswer : List ℕ → List ℕ → ℕ → SnapshotAnswer
 snapshotAnswer s t zero = Judged.Done (nodesOf (snapshotRead s t))
@@ -186,6 +192,6 @@ abbrev pub snapshotRow : List ℕ → List ℕ → ℕ → List ℕ → List ℕ
 snapshotRow s t zero row = rowIn s t (nodesOf (snapshotRead s t)) ++ drop (nodesOf (snapshotRead s t)) row
 snapshotRow s t (suc k) row = row
 
-pub record SnapshotIs (s t row : List ℕ) (o : SnapshotAnswer) (row′ : List ℕ) : Type 0 where
-  pub answer : o ≡ snapshotAnswer s t (snapshotRefusal s t (length row))
-  pub row-holds : row′ ≡ snapshotRow s t (snapshotRefusal s t (length row)) row
+pub record SnapshotIs (l : Limits) (s t row : List ℕ) (o : SnapshotAnswer) (row′ : List ℕ) : Type 0 where
+  pub answer : o ≡ snapshotAnswer s t (snapshotRefusal l s t (length row))
+  pub row-holds : row′ ≡ snapshotRow s t (snapshotRefusal l s t (length row)) row

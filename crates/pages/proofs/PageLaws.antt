@@ -83,11 +83,11 @@ pub record Paging (line goals : ℕ → List ℕ) (start : Naming) (used : ℕ) 
   pub same-count : n .count ≡ start .count
   pub judged : Judged goals (n .number) v
   pub out-same : length out ≡ length out₀
-  pub first-long : length first ≡ 4
-  pub second-long : length second ≡ 4
+  pub first-long : length first ≡ 64
+  pub second-long : length second ≡ 64
 
 module _ {line goals : ℕ → List ℕ} {start : Naming} {used : ℕ} {out₀ : List ℕ} where
-  pub paging-start : {first second : List ℕ} {v : Verdict} → start .number ≤ start .count → Judged goals (start .number) v → length first ≡ 4 → length second ≡ 4 → Paging line goals start used out₀ out₀ first second v used start
+  pub paging-start : {first second : List ℕ} {v : Verdict} → start .number ≤ start .count → Judged goals (start .number) v → length first ≡ 64 → length second ≡ 64 → Paging line goals start used out₀ out₀ first second v used start
   paging-start h j a b = record {
     text = sym (append-nil (take used out₀)) ∙ ap (λ l. take used out₀ ++ l) (sym (rows-none line (start .number)));
     onward = omega arith;
@@ -132,8 +132,8 @@ module _ {line goals : ℕ → List ℕ} {start : Naming} {used : ℕ} {out₀ :
           room = r;
         }
 
-    pub first-room : {w : ℕ} → w ≤ 4 → w ≤ length first
+    pub first-room : {w : ℕ} → w ≤ 64 → w ≤ length first
     first-room h = let a = p .first-long in omega arith
 
-    pub second-room : {w : ℕ} → w ≤ 4 → w ≤ length second
+    pub second-room : {w : ℕ} → w ≤ 64 → w ≤ length second
     second-room h = let a = p .second-long in omega arith

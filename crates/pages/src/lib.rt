@@ -52,13 +52,13 @@ pub fn fill_page(
     newline: &[u8],
 ) -> Page
     requires { ⌜ Ready (now ms) (now ln) w (now tw) (now cw) (now ns) ⌝ }
-    requires { ⌜ Places w (now ln) (now names) (now base) × ((w ≤ 4) × (goal < length (now ms))) ⌝ }
+    requires { ⌜ Places w (now ln) (now names) (now base) × ((w ≤ 64) × (goal < length (now ms))) ⌝ }
     requires { ⌜ Judged (goalsAt (now ms) (now ln) w (now base) (now names) goal) (start .number) before ⌝ }
     requires { ⌜ (start .number ≤ start .count) × ((used + 256 ≤ length (now out)) × (length (now newline) ≤ 16)) ⌝ }
     ensures { λ p. ⌜ Paged (rowAt (now (ms .entry)) (now (ln .entry)) w (now (base .entry)) (now (names .entry)) (now (newline .entry))) (goalsAt (now (ms .entry)) (now (ln .entry)) w (now (base .entry)) (now (names .entry)) goal) start used (now (out .entry)) (now (out .exit)) p ⌝ }
 {
-    let mut first = [0u64; 4];
-    let mut second = [0u64; 4];
+    let mut first = [0u64; 64];
+    let mut second = [0u64; 64];
     let mut v = before;
     let mut k = used;
     let mut n = start;

@@ -146,6 +146,11 @@ next-is p a b h = T-true _ (and-make (eqb (tag p) 6 || eqb (tag p) 7) (single (n
 
 -- ---- what a sheet says
 
+-- the tableau's lean is the sheet's
+pub sheet-lean : (s : List ℕ) → readRefusal s ≡ 0 → tableauIn s .ln ≡ R.places s
+unfolding sheetTableau tableauOf
+sheet-lean s z = ap (λ l. lean (spellOf s) (withValues (valuesIn s) (closure l))) (forms-split s z)
+
 module _ (s : List ℕ) (r : Reading) (x : Says s r) where
   abbrev ms : List ℕ
   ms = tableOf r
@@ -250,8 +255,7 @@ module _ (s : List ℕ) (r : Reading) (x : Says s r) where
     tableau-closure = ap closure (forms-split s z)
 
     pub tableau-lean : S .ln ≡ R.places s
-    unfolding sheetTableau tableauOf
-    tableau-lean = ap (λ l. lean (spellOf s) (withValues (valuesIn s) (closure l))) (forms-split s z)
+    tableau-lean = sheet-lean s z
 
     tableau-globals : S .globals ≡ map positive (globalsOf (formulas s))
     unfolding sheetTableau tableauOf

@@ -1,21 +1,44 @@
--- One, two and four words, by the width of the lean. Assumes nothing.
-use mathlib.Core.Path.{_≡_, ap}
-use Prim.Native.Nat.{ℕ, _^_, _≤_, _<_}
+-- How many words hold the types, by the width of the lean: enough, no more than that, and 64 at most up to 12 places. Assumes nothing.
+use mathlib.Core.Path.{_≡_, sym, ap, _∙_}
+use mathlib.Core.Logic.{_⊎_, inl, inr}
+use Prim.Native.Nat.{ℕ, _+_, _-_, _*_, _/_, _%_, _^_, _≤_, _<_, max}
 use native.Mathlib.Omega.{arith}
-use lib.Pow.{pow-mono}
-use Rattle.prepare.specs.Width.{WordsFor}
+use lib.Pow.{pow-add, pow-mono}
+use Rattle.wordset.proofs.BelowLaws.{lt-or-le}
+use Rattle.wordset.proofs.BitLaws.{shl-one}
+use Rattle.prepare.specs.Width.{wordsFor}
 
-pub one-word : (width : ℕ) → width < 7 → WordsFor width 1
-one-word width h =
-    let p : 2 ^ width ≤ 2 ^ 6 = pow-mono (let m : width ≤ 6 = omega arith in m) in
-    record { some = omega arith; few = omega arith; enough = omega arith; tight = omega arith }
+module _ (width : ℕ) where
+  whole : 6 ≤ width → 2 ^ width ≡ 2 ^ (width - 6) * 64
+  whole h = ap (λ n. 2 ^ n) (let e : width ≡ (width - 6) + 6 = omega arith in e) ∙ pow-add 2 (width - 6) 6
 
-pub two-words : (width : ℕ) → width ≡ 7 → WordsFor width 2
-two-words width e =
-    let p : 2 ^ width ≡ 2 ^ 7 = ap (λ k. 2 ^ k) e in
-    record { some = omega arith; few = omega arith; enough = omega arith; tight = omega arith }
+  pub words-some : 1 ≤ wordsFor width
+  unfolding wordsFor
+  words-some = omega arith
 
-pub four-words : (width : ℕ) → width ≡ 8 → WordsFor width 4
-four-words width e =
-    let p : 2 ^ width ≡ 2 ^ 8 = ap (λ k. 2 ^ k) e in
-    record { some = omega arith; few = omega arith; enough = omega arith; tight = omega arith }
+  pub words-enough : 2 ^ width ≤ wordsFor width * 64
+  unfolding wordsFor
+  words-enough = go (lt-or-le width 6)
+    where
+      go : (width < 6) ⊎ (6 ≤ width) → 2 ^ width ≤ max 1 (2 ^ width / 64) * 64
+      go (inl h) = let p : 2 ^ width ≤ 2 ^ 6 = pow-mono (let m : width ≤ 6 = omega arith in m) in omega arith
+      go (inr h) = let e = whole h in omega arith
+
+  pub words-few : width ≤ 12 → wordsFor width ≤ 64
+  unfolding wordsFor
+  words-few h = let p : 2 ^ width ≤ 2 ^ 12 = pow-mono h in omega arith
+
+  pub words-wider : {more : ℕ} → width ≤ more → wordsFor width ≤ wordsFor more
+  unfolding wordsFor
+  words-wider {more} h = let p : 2 ^ width ≤ 2 ^ more = pow-mono h in omega arith
+
+  pub one-word : width < 7 → 1 ≡ wordsFor width
+  unfolding wordsFor
+  one-word h = let p : 2 ^ width ≤ 2 ^ 6 = pow-mono (let m : width ≤ 6 = omega arith in m) in omega arith
+
+  pub more-words : 7 ≤ width → width ≤ 12 → (1 * 2 ^ (width - 6)) % 2 ^ 64 ≡ wordsFor width
+  unfolding wordsFor
+  more-words h k =
+      let e = whole (omega arith) in
+      let p : 2 ^ 1 ≤ 2 ^ (width - 6) = pow-mono (let m : 1 ≤ width - 6 = omega arith in m) in
+      shl-one (width - 6) (omega arith) ∙ omega arith

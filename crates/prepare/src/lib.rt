@@ -4,7 +4,7 @@ ghost use mathlib.Core.Bool.{cond};
 ghost use Prim.Native.Nat.{_+_, _≤_, _<_};
 ghost use lib.ListN.{length, set};
 ghost use Rattle.prepare.specs.Places.{kindWord, placesBy, Sought, Found};
-ghost use Rattle.prepare.specs.Width.{WordsFor};
+ghost use Rattle.prepare.specs.Width.{wordsFor};
 
 // Whether a member's word is a symbol of a kind.
 fn is_kind(x: u64, kinds: &[u8], kind: u8) -> bool
@@ -48,16 +48,13 @@ pub fn kind_places(ms: &[u64], ln: &[u8], kinds: &[u8], kind: u8, store: &mut [u
     n
 }
 
-// How many words hold the types over a lean of that width: 1, 2 or 4.
+// How many words hold the types over a lean of that width: 1, 2, 4 and so on up to 64.
 pub fn words_for(width: usize) -> usize
-    requires { ⌜ width ≤ 8 ⌝ }
-    ensures { λ r. ⌜ WordsFor width r ⌝ }
+    requires { ⌜ width ≤ 12 ⌝ }
+    ensures { λ r. ⌜ r ≡ wordsFor width ⌝ }
 {
     if width < 7 {
         return 1;
     }
-    if width == 7 {
-        return 2;
-    }
-    4
+    1 << (width - 6)
 }

@@ -1,6 +1,5 @@
 -- From what the reader of sheets, the closing and the lean's finding promise to what the whole reading does. Assumes nothing.
 use mathlib.Core.Path.{_≡_, refl, sym, ap, _∙_, subst}
-use mathlib.Core.Bool.{true}
 use mathlib.Core.Logic.{_⊎_, inl, inr}
 use mathlib.Core.List.{List, [], _∷_, map}
 use Prim.Native.Nat.{ℕ, zero, suc, _+_, _-_, _^_, _≤_, _<_}
@@ -17,14 +16,13 @@ use Rattle.ctl.specs.Lean.{lean}
 use Rattle.ctl.proofs.ListLaws.{kept-below, map-out}
 use Rattle.ctl.proofs.LeanOrder.{with-out, with-over}
 use Rattle.syntax.specs.Raw.{At}
-use Rattle.layout.specs.Layout.{layoutRight}
 use Rattle.head.specs.Head.{spellings, kinds}
 use Rattle.head.proofs.Spellings.{sheet-spellings}
 use Rattle.sheet.specs.declared.Sheet.{Sheet}
 use Rattle.sheet.specs.Refusal.{readRefusal}
 use Rattle.sheet.specs.Sheet.{SheetRead, Right}
 use Rattle.sheet.specs.Reading.{formulas, valuesIn}
-use Rattle.sheet.proofs.RefusalLaws.{sheet-refusal, right-kinds, right-layout}
+use Rattle.sheet.proofs.RefusalLaws.{sheet-refusal, right-kinds}
 use Rattle.sheet.proofs.DeclaredLaws.{formulas-over}
 use Rattle.sheet.proofs.SizeLaws.{formulas-many, texts-five, formula-size, end-within, formula-at}
 use Rattle.sheet.proofs.Alphabet.{sheet-alphabet}
@@ -47,7 +45,7 @@ use Rattle.reader.specs.declared.Refusal.the-variants.{Accepted}
 use Rattle.reader.specs.Reader.{numberOf, refusalBy, forms, members, tabled, places, refusalWithin, blank, Says, ReadIs, RootsAre}
 use Rattle.spelling.specs.Spelling.{word}
 use Rattle.reader.proofs.SpellLaws.{spell-line}
-use Rattle.reader.proofs.NumberLaws.{number-by, read-eight, within-read, within-nine, within-ten, within-none, within-zero}
+use Rattle.reader.proofs.NumberLaws.{number-by, read-eight, within-read, within-nine, within-ten, within-none}
 
 -- a refusal by the number k
 refused-is : {most wide k : ℕ} {s : List ℕ} {r : Reading} → k ≤ 10 → (k ≡ 0 → ⊥) → refusalWithin most wide s ≡ k → r ≡ blank (refusalBy k) → ReadIs most wide s r
@@ -259,11 +257,6 @@ module _ {s tab′ : List ℕ} {h : Sheet} (x : SheetRead s tab′ h) where
                           };
                           refused = λ n. absurd (n zero-is);
                         }
-
--- ---- the goal's text
-
-pub layout-within : (most wide : ℕ) (s : List ℕ) → refusalWithin most wide s ≡ 0 → layoutRight s ≡ true
-layout-within most wide s z = right-layout s (within-zero most wide s z)
 
 -- ---- the places of five formulas
 

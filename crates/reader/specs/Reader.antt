@@ -18,12 +18,12 @@ use Rattle.members.specs.Members as Members
 use Rattle.members.specs.Grown.{Tabled}
 use Rattle.closure.specs.Closed.{Placed}
 use Rattle.reader.specs.declared.Refusal.{Refusal}
-use Rattle.reader.specs.declared.Refusal.the-variants.{Accepted, Length, Byte, Layout, Names, Kinds, Grammar, Symbol, Braces, Closure, Lean}
+use Rattle.reader.specs.declared.Refusal.the-variants.{Accepted, Length, Byte, Layout, Names, Kinds, Grammar, Symbol, Braces, Closure, Lean, Limits}
 use Rattle.reader.specs.declared.Reading.{Reading}
 
 -- ---- the refusals
 
--- document 01's number of each; 0 for a sheet that is accepted
+-- the documents' number of each; 0 for a sheet that is accepted
 abbrev pub numberOf : Refusal → ℕ
 numberOf Accepted = 0
 numberOf Length = 1
@@ -36,6 +36,7 @@ numberOf Symbol = 7
 numberOf Braces = 8
 numberOf Closure = 9
 numberOf Lean = 10
+numberOf Limits = 19
 
 abbrev pub refusalBy : ℕ → Refusal
 refusalBy k = getD (Accepted ∷ Length ∷ Byte ∷ Layout ∷ Names ∷ Kinds ∷ Grammar ∷ Symbol ∷ Braces ∷ Closure ∷ []) k Lean

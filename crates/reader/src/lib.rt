@@ -6,7 +6,7 @@ ghost use Rattle.reader.specs.Reader.{refusalBy, numberOf, blank, RootsA
 use closure::Closed;
 use lean::Gathered;
 
-// Why a sheet is refused; `Accepted` where it is not.
+// Why a sheet is refused; `Accepted` where it is not. `Limits` is for those who give limits: they are out of their range, whatever the sheet.
 pub enum Refusal {
     Accepted,
     Length,
@@ -19,6 +19,7 @@ pub enum Refusal {
     Braces,
     Closure,
     Lean,
+    Limits,
 }
 
 fn refusal_by(k: u8) -> Refusal
@@ -54,10 +55,10 @@ pub struct Reading {
     pub lean: [u8; 12],
 }
 
-fn refused(k: u8) -> Reading
-    ensures { λ r. ⌜ r ≡ blank (refusalBy k) ⌝ }
+// A refusal, and nothing else.
+pub fn refused(refusal: Refusal) -> Reading
+    ensures { λ r. ⌜ r ≡ blank refusal ⌝ }
 {
-    let refusal = refusal_by(k);
     Reading {
         refusal,
         symbols: 0,
@@ -101,7 +102,7 @@ fn read_in(s: &[u8], most: usize, wide: usize, nodes: &mut [u64]) -> Reading
     let sheet = sheet::read_sheet(s, nodes);
     let k = sheet.refusal;
     if k != 0 {
-        return refused(k);
+        return refused(refusal_by(k));
     }
     let n = sheet.lines;
     let ends = sheet.ends;
@@ -111,10 +112,10 @@ fn read_in(s: &[u8], most: usize, wide: usize, nodes: &mut [u64]) -> Reading
     let mut places = [0usize; 5];
     let Closed::Within(closed) = closure::close(nodes, &roots[..n], &mut members, &mut places)
     else {
-        return refused(9);
+        return refused(Refusal::Closure);
     };
     if most < closed {
-        return refused(9);
+        return refused(Refusal::Closure);
     }
     let symbols = sheet.symbols;
     let kinds = sheet.kinds;
@@ -122,10 +123,10 @@ fn read_in(s: &[u8], most: usize, wide: usize, nodes: &mut [u64]) -> Reading
     let words = sheet.words;
     let mut lean = [0u8; 12];
     let Gathered::Count(width) = lean::lean_of(&members, count, &words[..symbols], &mut lean) else {
-        return refused(10);
+        return refused(Refusal::Lean);
     };
     if wide < width {
-        return refused(10);
+        return refused(Refusal::Lean);
     }
     let refusal = Refusal::Accepted;
     Reading {
@@ -159,7 +160,7 @@ pub fn read_within(s: &[u8], most: usize, wide: usize) -> Reading
     read_in(s, most, wide, &mut nodes)
 }
 
-// Document 01's number.
+// The documents' number.
 pub fn number(r: Refusal) -> u8
     ensures { λ n. ⌜ n ≡ numberOf r ⌝ }
 {
@@ -175,5 +176,6 @@ pub fn number(r: Refusal) -> u8
         Refusal::Braces => 8,
         Refusal::Closure => 9,
         Refusal::Lean => 10,
+        Refusal::Limits => 19,
     }
 }

@@ -8,7 +8,8 @@ use lib.ListN.{length, take, length-append}
 use lib.Seq.{take-length}
 use Rattle.ctl.specs.Lists.{below, countFrom}
 use Rattle.ctl.specs.Tableau.{namings}
-use Rattle.reader.specs.Reader.{refusalOf}
+use Rattle.limits.specs.declared.Limits.{Limits}
+use Rattle.limits.specs.Limits.{refusalUnder}
 use Rattle.prepare.specs.Prepared.{tableauIn}
 use Rattle.lines.specs.Lines.{headingLine, refusedLine, verdictHeading, verdictLine, joined}
 use Rattle.pages.specs.Pages.{rows}
@@ -32,9 +33,9 @@ rows-first : (f : ℕ → List ℕ) (m : ℕ) → joined (map f (below m)) ≡ r
 rows-first f m = let e : m ≡ m - 0 = omega arith in ap (λ k. joined (map f (countFrom 0 k))) e
 
 -- all lines are the text
-pub upto-length : (s newline : List ℕ) → upTo (length (linesOf s newline)) (linesOf s newline) ≡ textOf s newline
+pub upto-length : (L : Limits) (s newline : List ℕ) → upTo (length (linesOf L s newline)) (linesOf L s newline) ≡ textOf L s newline
 unfolding textOf
-upto-length s newline = ap joined (take-length (linesOf s newline))
+upto-length L s newline = ap joined (take-length (linesOf L s newline))
 
 -- ---- a refused sheet
 
@@ -42,46 +43,46 @@ refused-by : (s newline : List ℕ) (k : ℕ) → (k ≡ 0 → ⊥) → linesBy 
 refused-by s newline zero n = absurd (n refl)
 refused-by s newline (suc k) n = refl
 
-module _ (s newline : List ℕ) (k : ℕ) (e : k ≡ refusalOf s) (n : k ≡ 0 → ⊥) where
-  refused-lines : linesOf s newline ≡ refusedLine k newline ∷ []
+module _ (L : Limits) (s newline : List ℕ) (k : ℕ) (e : k ≡ refusalUnder L s) (n : k ≡ 0 → ⊥) where
+  refused-lines : linesOf L s newline ≡ refusedLine k newline ∷ []
   unfolding linesOf
   refused-lines = ap (linesBy s newline) (sym e) ∙ refused-by s newline k n
 
-  pub refused-text : upTo 1 (linesOf s newline) ≡ refusedLine k newline
+  pub refused-text : upTo 1 (linesOf L s newline) ≡ refusedLine k newline
   refused-text = ap (upTo 1) refused-lines ∙ append-nil (refusedLine k newline)
 
-  pub refused-count : 1 ≡ length (linesOf s newline)
+  pub refused-count : 1 ≡ length (linesOf L s newline)
   refused-count = sym (ap length refused-lines)
 
 -- ---- one that is not refused
 
-module _ (s newline : List ℕ) (z : refusalOf s ≡ 0) where
+module _ (L : Limits) (s newline : List ℕ) (z : refusalUnder L s ≡ 0) where
   abbrev N : ℕ
   N = namings (tableauIn s)
 
   abbrev last : List (List ℕ)
   last = verdictHeading newline ∷ verdictLine (verdictIn s) newline ∷ []
 
-  accepted-lines : linesOf s newline ≡ headingLine newline ∷ (map (namingOf s newline) (below N) ++ last)
+  accepted-lines : linesOf L s newline ≡ headingLine newline ∷ (map (namingOf s newline) (below N) ++ last)
   unfolding linesOf
   accepted-lines = ap (linesBy s newline) z
 
-  pub accepted-count : length (linesOf s newline) ≡ N + 3
+  pub accepted-count : length (linesOf L s newline) ≡ N + 3
   accepted-count =
       let a : length (map (namingOf s newline) (below N) ++ last) ≡ N + 2 = length-append (map (namingOf s newline) (below N)) last ∙ ap (λ k. k + 2) (length-run (namingOf s newline) 0 N) in
       ap length accepted-lines ∙ omega arith
 
   -- the heading and the lines of the namings before m
-  pub upto-naming : (m : ℕ) → m ≤ N → upTo (m + 1) (linesOf s newline) ≡ headingLine newline ++ rows (namingOf s newline) 0 m
+  pub upto-naming : (m : ℕ) → m ≤ N → upTo (m + 1) (linesOf L s newline) ≡ headingLine newline ++ rows (namingOf s newline) 0 m
   upto-naming m h =
       ap₂ upTo (add-one m) accepted-lines
       ∙ ap (λ l. headingLine newline ++ joined l) (take-run (namingOf s newline) last 0 m N h)
       ∙ ap (λ l. headingLine newline ++ l) (rows-first (namingOf s newline) m)
 
   -- and behind the lines of all namings, the verdict
-  pub upto-verdict : upTo (N + 3) (linesOf s newline) ≡ upTo (N + 1) (linesOf s newline) ++ (verdictHeading newline ++ verdictLine (verdictIn s) newline)
+  pub upto-verdict : upTo (N + 3) (linesOf L s newline) ≡ upTo (N + 1) (linesOf L s newline) ++ (verdictHeading newline ++ verdictLine (verdictIn s) newline)
   upto-verdict =
-      ap (λ k. upTo k (linesOf s newline)) (sym accepted-count) ∙ ap joined (take-length (linesOf s newline) ∙ accepted-lines)
+      ap (λ k. upTo k (linesOf L s newline)) (sym accepted-count) ∙ ap joined (take-length (linesOf L s newline) ∙ accepted-lines)
       ∙ ap (λ t. headingLine newline ++ t)
       (joined-append (map (namingOf s newline) (below N)) last
       ∙ ap₂ _++_ (rows-first (namingOf s newline) N) (ap (λ t. verdictHeading newline ++ t) (append-nil (verdictLine (verdictIn s) newline))))

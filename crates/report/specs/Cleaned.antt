@@ -2,6 +2,7 @@
 use mathlib.Core.List.{List, [], _∷_}
 use Prim.Native.Nat.{ℕ, zero, suc}
 use Rattle.lines.specs.Lines.{refusedLine}
+use Rattle.limits.specs.declared.Limits.{Limits}
 use Rattle.clean.specs.Clean.{cleanText}
 use Rattle.outcomes.specs.Outcomes.{cleanRefusal}
 
@@ -11,6 +12,6 @@ cleanedBy s zero = cleanText s
 cleanedBy s (suc k) = refusedLine (suc k) (10 ∷ [])
 
 -- no clean text has over 1,024 bytes, so that much room is enough
-unfoldable pub cleanedOf : List ℕ → List ℕ
+unfoldable pub cleanedOf : Limits → List ℕ → List ℕ
 unfolding cleanRefusal
-cleanedOf s = cleanedBy s (cleanRefusal s 1024)
+cleanedOf l s = cleanedBy s (cleanRefusal l s 1024)

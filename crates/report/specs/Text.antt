@@ -1,11 +1,12 @@
--- What the program prints of a sheet: its lines, and the text that they make. Assumes nothing.
+-- What the program prints of a sheet under some limits: its lines, and the text that they make. Assumes nothing.
 use mathlib.Core.List.{List, [], _∷_, _++_, map}
 use Prim.Native.Nat.{ℕ, zero, suc}
 use lib.ListN.{length, take}
 use Rattle.ctl.specs.Lists.{below}
 use Rattle.ctl.specs.Tableau.{namings, startTypes}
 use Rattle.ctl.specs.Verdict.{roundsOf, survivingTypes}
-use Rattle.reader.specs.Reader.{refusalOf}
+use Rattle.limits.specs.declared.Limits.{Limits}
+use Rattle.limits.specs.Limits.{refusalUnder}
 use Rattle.prepare.specs.Prepared.{tableauIn}
 use Rattle.fitted.specs.Accepted.{verdictIn}
 use Rattle.lines.specs.Lines.{joined, headingLine, namingLine, refusedLine, verdictHeading, verdictLine}
@@ -19,12 +20,13 @@ abbrev pub linesBy : List ℕ → List ℕ → ℕ → List (List ℕ)
 linesBy s newline zero = headingLine newline ∷ (map (namingOf s newline) (below (namings (tableauIn s))) ++ (verdictHeading newline ∷ verdictLine (verdictIn s) newline ∷ []))
 linesBy s newline (suc k) = refusedLine (suc k) newline ∷ []
 
-unfoldable pub linesOf : List ℕ → List ℕ → List (List ℕ)
-linesOf s newline = linesBy s newline (refusalOf s)
+unfoldable pub linesOf : Limits → List ℕ → List ℕ → List (List ℕ)
+unfolding refusalUnder
+linesOf l s newline = linesBy s newline (refusalUnder l s)
 
-unfoldable pub textOf : List ℕ → List ℕ → List ℕ
+unfoldable pub textOf : Limits → List ℕ → List ℕ → List ℕ
 unfolding linesOf
-textOf s newline = joined (linesOf s newline)
+textOf l s newline = joined (linesOf l s newline)
 
 -- the text of the first n lines
 abbrev pub upTo : ℕ → List (List ℕ) → List ℕ

@@ -49,7 +49,7 @@ slice-aggregate-fill-words-5 c =
 fill-words-requires : tie.Need-fill-words-requires
 fill-words-requires c κs =
     let b18 = c .before .before .before .before .before .before .before .before .before .before .before .before .before .before .before .before .before .before in
-    fill-asks (b18 .pre .0 .1) _ _ _ _ (b18 .pre .1 .0) (b18 .pre .1 .1) (b18 .pre .1 .2) (b18 .pre .1 .3)
+    fill-asks (b18 .pre .0 .1) (b18 .pre .1)
 
 same-length : tie.Need-same-length
 same-length c = search needs

@@ -2,7 +2,7 @@
 use native.Mathlib.Nat.{add-mul}
 use native.Mathlib.Omega.{arith}
 use lib.ListN.{length}
-use Rattle.frame.proofs.Stores.{blocks-room, ready-by}
+use Rattle.frame.proofs.Stores.{ready-by}
 use borrow.Author.Needs.{needs}
 use Rattle.frame.proofs.fill_words.Statement.{statement}
 use Rattle.frame.proofs.fill_words.Tie as tie
@@ -10,30 +10,30 @@ use Rattle.frame.proofs.fill_words.Tie as tie
 truth-words-requires : tie.Need-truth-words-requires
 truth-words-requires c κs =
     let b10 = c .before .before .before .before .before .before .before .before .before .before in
-    (b10 .pre .0 .0 .table, (b10 .pre .0 .0 .leans, (let a = blocks-room _ _ _ (b10 .pre .0 .0 .few) (b10 .pre .1 .0) (b10 .pre .1 .1) in omega (arith, a, add-mul (length (b10 .args .ms .now)) 9 (b10 .args .w)))))
+    (b10 .pre .0 .0 .table, (b10 .pre .0 .0 .leans, (let a = b10 .pre .1 .1 .blocks in omega (arith, a, add-mul (length (b10 .args .ms .now)) 9 (b10 .args .w)))))
 
 field-words-requires : tie.Need-field-words-requires
 field-words-requires c κs =
     let b3 = c .before .before .before in
     let b14 = b3 .before .before .before .before .before .before .before .before .before .before .before in
-    (b3 .truth-words .ensures, (blocks-room _ _ _ (b14 .pre .0 .0 .few) (b14 .pre .1 .0) (let k = b3 .truth-words .kept .1 .1 .0 in let h = b14 .pre .1 .1 in omega arith), (let w = b14 .pre .1 .0 in omega arith)))
+    (b3 .truth-words .ensures, ((let k = b3 .truth-words .kept .1 .1 .0 in let h = b14 .pre .1 .1 .blocks in omega arith), (let w = b14 .pre .1 .0 in omega arith)))
 
 condition-words-requires : tie.Need-condition-words-requires
 condition-words-requires c κs =
     let b4 = c .before .before .before .before in
     let b19 = b4 .before .before .before .before .before .before .before .before .before .before .before .before .before .before .before in
-    ((b19 .pre .0 .0 .table, (b19 .pre .0 .0 .leans, (b19 .pre .0 .0 .places, b19 .pre .0 .0 .narrow))), (b4 .field-words .ensures .0, ((let w = b19 .pre .1 .0 in let h = b19 .pre .1 .2 in omega arith), (let w = b19 .pre .1 .0 in omega arith))))
+    ((b19 .pre .0 .0 .table, (b19 .pre .0 .0 .leans, (b19 .pre .0 .0 .places, b19 .pre .0 .0 .narrow))), (b4 .field-words .ensures .0, (b19 .pre .1 .1 .rows, (let w = b19 .pre .1 .0 in omega arith))))
 
 base-words-requires : tie.Need-base-words-requires
 base-words-requires c κs =
     let b9 = c .before .before .before .before .before .before .before .before .before in
     let b24 = b9 .before .before .before .before .before .before .before .before .before .before .before .before .before .before .before in
-    (b9 .field-words .ensures .0, (b24 .pre .1 .4, (b24 .pre .0 .0 .globals-in, (b24 .pre .0 .0 .values-in, b24 .pre .0 .1))))
+    (b9 .field-words .ensures .0, (b24 .pre .1 .1 .families, (b24 .pre .0 .0 .globals-in, (b24 .pre .0 .0 .values-in, b24 .pre .0 .1))))
 
 list-needs-requires : tie.Need-list-needs-requires
 list-needs-requires c κs =
     let b28 = c .before .before .before .before .before .before .before .before .before .before .before .before .before .before .before .before .before .before .before .before .before .before .before .before .before .before .before .before in
-    ((let n = b28 .pre .0 .0 .few in omega arith), (let n = b28 .pre .0 .0 .few in let h = b28 .pre .1 .3 in omega arith))
+    ((let n = b28 .pre .0 .0 .few in omega arith), b28 .pre .1 .1 .needs)
 
 same-length : tie.Need-same-length
 same-length c = search needs

@@ -1,17 +1,14 @@
 -- `words_for` meets its contract, by the width. Assumes nothing.
-use native.Mathlib.Omega.{arith}
-use Rattle.prepare.proofs.WidthLaws.{four-words, one-word, two-words}
+use borrow.Author.Needs.{needs}
+use Rattle.prepare.proofs.WidthLaws.{more-words, one-word}
 use Rattle.prepare.proofs.words_for.Statement.{statement}
 use Rattle.prepare.proofs.words_for.Tie as tie
 
-returns : tie.Need-returns
-returns c = one-word _ (c .if1 .taken)
-
-returns-2 : tie.Need-returns-2
-returns-2 c = two-words _ (c .if2 .taken)
-
-returns-3 : tie.Need-returns-3
-returns-3 c = four-words _ (omega (arith, c .before .before .pre, c .before .if1 .left, c .if2 .left))
-
 pub words-for-spec : {M : Type 1} → statement M
-words-for-spec = tie.close (tie.spec returns returns-2 returns-3)
+words-for-spec =
+    tie.close
+    (tie.spec
+    (λ c. one-word _ (c .if1 .taken))
+    (λ c. search needs)
+    (λ c. search needs)
+    (λ c. more-words _ (c .if1 .left) (c .before .pre)))

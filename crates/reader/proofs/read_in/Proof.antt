@@ -1,13 +1,17 @@
 -- `read_in` meets its contract, a return for each refusal, and one for a sheet that has none. Assumes nothing.
 use Rattle.reader.proofs.ReadLaws.{refused-read, lines-within, closes, refused-beyond, refused-many, still-few, kinds-within, symbols-within, words-line, values-ask, leans, refused-crowded, refused-wide, accepted-is}
-use mathlib.Core.Path.{refl, sym}
+use mathlib.Core.Path.{refl, sym, ap, _∙_}
 use lib.Seq.{length-take-le}
+use Rattle.reader.specs.Reader.{blank}
 use borrow.Author.Needs.{needs}
 use Rattle.reader.proofs.read_in.Statement.{statement}
 use Rattle.reader.proofs.read_in.Tie as tie
 
 read-sheet-requires : tie.Need-read-sheet-requires
 read-sheet-requires c κs = search needs
+
+refusal-by-requires : tie.Need-refusal-by-requires
+refusal-by-requires c κs = search needs
 
 refused-requires : tie.Need-refused-requires
 refused-requires c κs = search needs
@@ -18,8 +22,9 @@ same-length c = search needs
 returns : tie.Need-returns
 returns c =
     let b1 = c .before in
-    let b4 = b1 .before .before .before in
-    refused-read (b4 .read-sheet .ensures) (b1 .if1 .taken) (c .refused .ensures)
+    let b2 = b1 .before in
+    let b5 = b2 .before .before .before in
+    refused-read (b5 .read-sheet .ensures) (b2 .if1 .taken) (c .refused .ensures ∙ ap blank (b1 .refusal-by .ensures))
 
 roots-of-requires : tie.Need-roots-of-requires
 roots-of-requires c κs = search needs
@@ -226,6 +231,7 @@ read-in-spec =
     tie.close
     (tie.spec
     read-sheet-requires
+    refusal-by-requires
     refused-requires
     same-length
     returns

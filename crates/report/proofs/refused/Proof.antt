@@ -33,13 +33,13 @@ write-lines-requires c κs =
     let b3 = c .before .before .before in
     let b7 = b3 .before .before .before .before in
     let p = b7 .pre in
-    ap (λ k. upTo k (linesOf (now (b7 .args .sheet)) (now (b7 .args .newline))) ++ take (b3 .put-refused .result) (b3 .put-refused .last .0)) (p .0) ∙ put-front (omega arith) (b3 .put-refused .ensures .0) ∙ sym (refused-text _ _ _ (p .1 .0) (p .1 .1 .0))
+    ap (λ k. upTo k (linesOf (b7 .args .l) (now (b7 .args .sheet)) (now (b7 .args .newline))) ++ take (b3 .put-refused .result) (b3 .put-refused .last .0)) (p .0) ∙ put-front (omega arith) (b3 .put-refused .ensures .0) ∙ sym (refused-text _ _ _ _ (p .1 .0) (p .1 .1 .0))
 
 returns : tie.Need-returns
 returns c =
     let b8 = c .before .before .before .before .before .before .before .before in
     let p = b8 .pre in
-    c .write-lines .ensures ∙ refused-count _ _ _ (p .1 .0) (p .1 .1 .0)
+    c .write-lines .ensures ∙ refused-count _ _ _ _ (p .1 .0) (p .1 .1 .0)
 
 pub refused-spec : {M : Type 1} → statement M
 refused-spec =

@@ -17,10 +17,10 @@ use Rattle.pages.proofs.fill_page.Reads as fill-page-reads
 use Rattle.report.proofs.write_lines.Reads as write-lines-reads
 
 abbrev Inv-loop : tie.InvT-loop
-Inv-loop sheet newline done₀ ms ln w tw cw ns names base goal namings out₀ used₀ n₀ v₀ done out used n v = Printing sheet newline (goalsAt ms ln w base names goal) namings out₀ out done used n v
+Inv-loop l sheet newline done₀ ms ln w tw cw ns names base goal namings out₀ used₀ n₀ v₀ done out used n v = Printing l sheet newline (goalsAt ms ln w base names goal) namings out₀ out done used n v
 
 abbrev μ-loop : tie.MeasureT-loop
-μ-loop sheet newline done₀ ms ln w tw cw ns names base goal namings out₀ used₀ n₀ v₀ done out used n v = n .count - n .number
+μ-loop l sheet newline done₀ ms ln w tw cw ns names base goal namings out₀ used₀ n₀ v₀ done out used n v = n .count - n .number
 
 -- src/lib.rt:51:9
 put-heading-requires : tie.Need-put-heading-requires Inv-loop μ-loop
@@ -124,21 +124,21 @@ write-lines-requires-2 c κs =
 -- src/lib.rt:54:5
 loop-less : tie.Need-loop-less Inv-loop μ-loop
 loop-less c =
-    let b3 = c .before .before .before in
-    let b7 = b3 .before .before .before .before in
-    let b9 = b7 .before .before in
-    let b25 = b9 .before .before .before .before .before .before .before .before .before .before .before .before .before .before .before .before in
-    let l = page-less (b25 .pre .1 .0) (b9 .loop .inv) (b7 .fill-page .ensures) (b3 .if1 .left) in let i = b9 .loop .inv .counts in let h = b3 .if1 .left in omega arith
+    let b4 = c .before .before .before .before in
+    let b8 = b4 .before .before .before .before in
+    let b10 = b8 .before .before in
+    let b26 = b10 .before .before .before .before .before .before .before .before .before .before .before .before .before .before .before .before in
+    let l = page-less (b26 .pre .1 .0) (b10 .loop .inv) (b8 .fill-page .ensures) (b4 .if1 .left) in let i = b10 .loop .inv .counts in let h = b4 .if1 .left in omega arith
 
 -- src/lib.rt:54:5
 loop-again : tie.Need-loop-again Inv-loop μ-loop
 loop-again c =
-    let b3 = c .before .before .before in
-    let b7 = b3 .before .before .before .before in
-    let b9 = b7 .before .before in
-    let b13 = b9 .before .before .before .before in
-    let b25 = b13 .before .before .before .before .before .before .before .before .before .before .before .before in
-    let p = b25 .pre .1 in let q = p .1 .1 .1 .0 in let k = b13 .put-heading .kept .0 in printing-next (p .0) (b9 .loop .inv) (b7 .fill-page .ensures) (b3 .if1 .left) (omega arith) (b7 .fill-page .kept .1 .1 .1 .1 .1 .1 .1 .1 .1 .1 .1 .0) (c .write-lines2 .ensures)
+    let b4 = c .before .before .before .before in
+    let b8 = b4 .before .before .before .before in
+    let b10 = b8 .before .before in
+    let b14 = b10 .before .before .before .before in
+    let b26 = b14 .before .before .before .before .before .before .before .before .before .before .before .before in
+    let p = b26 .pre .1 in let q = p .1 .1 .1 .0 in let k = b14 .put-heading .kept .0 in printing-next (p .0) (b10 .loop .inv) (b8 .fill-page .ensures) (b4 .if1 .left) (omega arith) (b8 .fill-page .kept .1 .1 .1 .1 .1 .1 .1 .1 .1 .1 .1 .0) (c .before .write-lines2 .ensures)
 
 pub write-pages-spec : {M : Type 1} → statement M
 write-pages-spec =
@@ -161,5 +161,6 @@ write-pages-spec =
     slice-reshare-prefix-write-lines-2
     slice-aggregate-write-lines-2
     write-lines-requires-2
+    (λ c κs. search needs)
     loop-less
     loop-again)

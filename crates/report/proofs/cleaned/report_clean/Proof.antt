@@ -11,23 +11,23 @@ array-share-prefix-store : tie.Need-array-share-prefix-store
 array-share-prefix-store c =
     let b1 = c .before in
     let b4 = b1 .before .before .before in
-    let w = text-within (b4 .clean .ensures) refl (b1 .length .given .1) in
-    let k = b4 .clean .kept .1 .0 in
+    let w = text-within (b4 .clean-within .ensures) refl (b1 .length .given .1) in
+    let k = b4 .clean-within .kept .1 .1 .0 in
     omega arith
 
 slice-aggregate-write-text : tie.Need-slice-aggregate-write-text
 slice-aggregate-write-text c =
     let b2 = c .before .before in
     let b5 = b2 .before .before .before in
-    let w = text-within (b5 .clean .ensures) refl (b2 .length .given .1) in
-    let k = b5 .clean .kept .1 .0 in
+    let w = text-within (b5 .clean-within .ensures) refl (b2 .length .given .1) in
+    let k = b5 .clean-within .kept .1 .1 .0 in
     sym (length-take-le _ _ (omega arith))
 
 write-text-requires : tie.Need-write-text-requires
 write-text-requires c κs =
     let b2 = c .before .before in
     let b5 = b2 .before .before .before in
-    text-whole (b5 .clean .ensures) refl (b2 .length .given .1)
+    text-whole (b5 .clean-within .ensures) refl (b2 .length .given .1)
 
 slice-aggregate-write-text-2 : tie.Need-slice-aggregate-write-text-2
 slice-aggregate-write-text-2 c =
@@ -41,7 +41,7 @@ write-text-requires-2 c κs =
     let b2 = c .before .before in
     let b6 = b2 .before .before .before .before in
     let b9 = b6 .before .before .before in
-    refused-whole (b9 .clean .ensures) refl (b6 .k .given .1) (b2 .put-refused .ensures .0)
+    refused-whole (b9 .clean-within .ensures) refl (b6 .k .given .1) (b2 .put-refused .ensures .0)
 
 pub report-clean-spec : {M : Type 1} → statement M
 report-clean-spec =
