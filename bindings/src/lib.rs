@@ -7,6 +7,8 @@
 //! - No function allocates or has a state, and calls from several threads are free.
 //! - Stores are lent: `&mut` slices of any length. After a refusal they are as they were; otherwise only the part that a function
 //!   describes has changed. The constants here are lengths that are always enough.
+//! - A sheet has at most 8 basic formulas, and 64 with all parts and expansions, or is refused. Each function has a second one, whose
+//!   name ends in `_within`, that takes [`Limits`] first: up to 12 and 128. `Limits` has the lengths that are always enough there.
 //! - Each call needs a stack with 1 MiB left. A thread of the standard library has 2 MiB unless it asked for less.
 //!
 //! ```
@@ -19,11 +21,18 @@
 #![deny(unsafe_code)]
 #![warn(unsafe_op_in_unsafe_fn)]
 
+mod limits;
 #[allow(unsafe_code)]
 pub mod raw;
 mod refusal;
+mod within;
 
+pub use limits::Limits;
 pub use refusal::Refusal;
+pub use within::{
+    book_within, clean_within, goal_text_within, list_within, snapshot_within, table_within,
+    verdict_within,
+};
 
 /// So many words each of [`table`]'s stores has at least.
 pub const TABLE_WORDS: usize = 4;
@@ -34,10 +43,10 @@ pub const BOOK_WORDS: usize = 65_536;
 /// So many numbers are always enough for [`list`].
 pub const LIST_NUMBERS: usize = 256;
 
-/// So many bytes are always enough for [`clean`].
+/// So many bytes are always enough for [`clean`], and for [`clean_within`] within all limits.
 pub const CLEAN_BYTES: usize = 1024;
 
-/// So many bytes are always enough for [`snapshot`].
+/// So many bytes are always enough for [`snapshot`], and for [`snapshot_within`] within all limits.
 pub const ROW_BYTES: usize = 16;
 
 /// One of the two stores that are lent to [`table`].
@@ -64,18 +73,45 @@ pub struct Table<'a> {
     pub rounds: u64,
 }
 
+impl<'a> Table<'a> {
+    /// By the words that the library told.
+    fn of(out: [u64; 5], first: &'a [u64], second: &'a [u64]) -> Table<'a> {
+        let [words, start, left, rounds, last] = out;
+        let (store, written) = match last {
+            1 => (Store::First, first),
+            _ => (Store::Second, second),
+        };
+        Table {
+            words: &written[..words as usize],
+            store,
+            start,
+            left,
+            rounds,
+        }
+    }
+}
+
 /// What [`book`] gives.
 #[derive(Clone, Copy, Debug, PartialEq, Eq)]
 pub struct Book<'a> {
     /// The surviving types under all namings, one naming after the other: the beginning of the store.
     pub words: &'a [u64],
-    /// How many namings there are, 1 to 16,384.
+    /// How many namings there are: 1 to 16,384, or within limits up to 4,194,304.
     pub namings: u64,
-    /// How many words each naming has: 1, 2 or 4.
+    /// How many words each naming has: 1, 2 or 4, or within limits up to 64.
     pub words_each: usize,
 }
 
 impl<'a> Book<'a> {
+    /// By the words that the library told.
+    fn of([namings, words]: [u64; 2], store: &'a [u64]) -> Book<'a> {
+        Book {
+            words: &store[..(namings * words) as usize],
+            namings,
+            words_each: words as usize,
+        }
+    }
+
     /// The surviving types under a naming, or nothing if there is no such naming.
     ///
     /// ```
@@ -104,6 +140,20 @@ pub enum Verdict {
     },
     /// No snapshot of any size that obeys the sheet has the goal at any node.
     Unsatisfiable,
+}
+
+impl Verdict {
+    /// By the words that the library told.
+    fn of([verdict, naming, type_number]: [u64; 3]) -> Verdict {
+        match verdict {
+            1 => Verdict::Open {
+                naming,
+                type_number: type_number as u16,
+            },
+            2 => Verdict::Unsatisfiable,
+            _ => unreachable!("the library tells 1 or 2"),
+        }
+    }
 }
 
 /// The surviving types under a naming.
@@ -137,19 +187,8 @@ pub fn table<'a>(
     first: &'a mut [u64],
     second: &'a mut [u64],
 ) -> Result<Table<'a>, Refusal> {
-    let [words, start, left, rounds, last] =
-        told(|out| raw::table(sheet, naming, first, second, out))?;
-    let (store, written) = match last {
-        1 => (Store::First, first),
-        _ => (Store::Second, second),
-    };
-    Ok(Table {
-        words: &written[..words as usize],
-        store,
-        start,
-        left,
-        rounds,
-    })
+    let out = told(|out| raw::table(sheet, naming, first, second, out))?;
+    Ok(Table::of(out, first, second))
 }
 
 /// The surviving types under every naming.
@@ -170,12 +209,8 @@ pub fn table<'a>(
 /// # Ok::<(), Refusal>(())
 /// ```
 pub fn book<'a>(sheet: &[u8], store: &'a mut [u64]) -> Result<Book<'a>, Refusal> {
-    let [namings, words] = told(|out| raw::book(sheet, store, out))?;
-    Ok(Book {
-        words: &store[..(namings * words) as usize],
-        namings,
-        words_each: words as usize,
-    })
+    let out = told(|out| raw::book(sheet, store, out))?;
+    Ok(Book::of(out, store))
 }
 
 /// The surviving types under a naming as numbers, each once: those with the fewest true lean places first, among equals the smaller number.
@@ -213,15 +248,7 @@ pub fn list<'a>(sheet: &[u8], naming: u64, store: &'a mut [u16]) -> Result<&'a [
 /// assert_eq!(verdict(b""), Err(Refusal::Length));
 /// ```
 pub fn verdict(sheet: &[u8]) -> Result<Verdict, Refusal> {
-    let [verdict, naming, type_number] = told(|out| raw::verdict(sheet, out))?;
-    Ok(match verdict {
-        1 => Verdict::Open {
-            naming,
-            type_number: type_number as u16,
-        },
-        2 => Verdict::Unsatisfiable,
-        _ => unreachable!("the library tells 1 or 2"),
-    })
+    told(|out| raw::verdict(sheet, out)).map(Verdict::of)
 }
 
 /// The goal's text, the part of the sheet after `goal ` without its newline.
@@ -234,8 +261,7 @@ pub fn verdict(sheet: &[u8]) -> Result<Verdict, Refusal> {
 /// ```
 pub fn goal_text(sheet: &[u8]) -> Result<&str, Refusal> {
     let [place, length] = told(|out| raw::goal(sheet, out))?;
-    let text = &sheet[place as usize..][..length as usize];
-    Ok(std::str::from_utf8(text).expect("a sheet that is not refused has printable bytes"))
+    Ok(printable(&sheet[place as usize..][..length as usize]))
 }
 
 /// The sheet written back in one way of typing: lines 1 and 2 as they are, then each formula in canonical print behind `all ` or `goal `.
@@ -262,8 +288,7 @@ pub fn goal_text(sheet: &[u8]) -> Result<&str, Refusal> {
 /// ```
 pub fn clean<'a>(sheet: &[u8], store: &'a mut [u8]) -> Result<&'a str, Refusal> {
     let [length] = told(|out| raw::clean(sheet, store, out))?;
-    let text = &store[..length as usize];
-    Ok(std::str::from_utf8(text).expect("a clean sheet has printable bytes"))
+    Ok(printable(&store[..length as usize]))
 }
 
 /// At which nodes of a snapshot the goal and the globals hold.
@@ -301,6 +326,11 @@ fn told<const N: usize>(call: impl FnOnce(&mut [u64; N]) -> u8) -> Result<[u64; 
     let mut out = [0; N];
     match call(&mut out) {
         0 => Ok(out),
-        number => Err(Refusal::of_number(number).expect("the library's refusals are 1 to 18")),
+        number => Err(Refusal::of_number(number).expect("the library's refusals are 1 to 19")),
     }
+}
+
+/// A part of a sheet that is not refused, or of a clean one.
+fn printable(text: &[u8]) -> &str {
+    std::str::from_utf8(text).expect("such a sheet has printable bytes")
 }

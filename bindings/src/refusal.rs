@@ -4,7 +4,7 @@ use std::error::Error;
 use std::fmt;
 
 /// Why a call was refused: the first number that applies. They are asked in the order of their numbers, but for 17, which comes before 16,
-/// and 18, which comes after 10.
+/// 18, which comes after 10, and 19, which comes before 1.
 ///
 /// After a refusal every store is as it was before the call.
 ///
@@ -38,9 +38,9 @@ pub enum Refusal {
     Symbol = 7,
     /// Empty braces, or a mode twice in them: a field in one direction.
     Braces = 8,
-    /// Over 64 formulas with all their parts and expansions.
+    /// More formulas with all their parts and expansions than the closure limit, 64 in a call without limits.
     Closure = 9,
-    /// Over 8 basic formulas. Every value is one of them, used in a formula or not.
+    /// More basic formulas than the lean limit, 8 in a call without limits. Every value is one of them, used in a formula or not.
     Lean = 10,
     /// The naming is not below the number of namings.
     Naming = 11,
@@ -58,6 +58,8 @@ pub enum Refusal {
     Held = 17,
     /// The sheet written clean has a line over 200 bytes, is over 1,024 bytes, or has no room in the store. Asked after 10.
     Clean = 18,
+    /// The lean limit is not 1 to 12, or the closure limit not 16 to 128. Asked before 1, and only in the calls with limits.
+    Limits = 19,
 }
 
 impl Refusal {
@@ -67,9 +69,9 @@ impl Refusal {
     /// use lockgraph::Refusal;
     ///
     /// let numbers: Vec<u8> = Refusal::ALL.iter().map(|refusal| refusal.number()).collect();
-    /// assert_eq!(numbers, (1..=18).collect::<Vec<u8>>());
+    /// assert_eq!(numbers, (1..=19).collect::<Vec<u8>>());
     /// ```
-    pub const ALL: [Refusal; 18] = [
+    pub const ALL: [Refusal; 19] = [
         Refusal::Length,
         Refusal::Byte,
         Refusal::Layout,
@@ -88,9 +90,10 @@ impl Refusal {
         Refusal::Row,
         Refusal::Held,
         Refusal::Clean,
+        Refusal::Limits,
     ];
 
-    /// The number in the documents' table, 1 to 18.
+    /// The number in the documents' table, 1 to 19.
     ///
     /// ```
     /// assert_eq!(lockgraph::Refusal::Store.number(), 12);
@@ -106,7 +109,7 @@ impl Refusal {
     ///
     /// assert_eq!(Refusal::of_number(9), Some(Refusal::Closure));
     /// assert_eq!(Refusal::of_number(0), None);
-    /// assert_eq!(Refusal::of_number(19), None);
+    /// assert_eq!(Refusal::of_number(20), None);
     /// ```
     pub fn of_number(number: u8) -> Option<Refusal> {
         let place = usize::from(number).checked_sub(1)?;
@@ -129,8 +132,10 @@ impl Refusal {
             Refusal::Grammar => "a formula does not parse",
             Refusal::Symbol => "a symbol is not in line 1 or is of the wrong kind for its place",
             Refusal::Braces => "braces are empty or have a mode twice",
-            Refusal::Closure => "there are over 64 formulas with all parts and expansions",
-            Refusal::Lean => "there are over 8 basic formulas",
+            Refusal::Closure => {
+                "there are more formulas, with all parts and expansions, than the closure limit (usually 64)"
+            }
+            Refusal::Lean => "there are more basic formulas than the lean limit (usually 8)",
             Refusal::Naming => "the naming is not below the number of namings",
             Refusal::Store => "a store is too short",
             Refusal::Snapshot => "the snapshot is not line 1 and 1 to 16 lines of entries",
@@ -141,6 +146,7 @@ impl Refusal {
             Refusal::Clean => {
                 "the clean sheet has a line over 200 bytes, is over 1,024, or has no room in the store"
             }
+            Refusal::Limits => "the lean limit is not 1 to 12, or the closure limit not 16 to 128",
         }
     }
 }

@@ -3,14 +3,17 @@
 //! Read are the guide's tables, its list of typing errors, and its comments, which nobody sees in the rendered text: `<!-- ANSWER -->` above the block of a sheet or a
 //! snapshot, and `<!-- ANSWER: LINE / LINE / .. -->`, or a sheet's file, where the prose has a sheet without a block. An answer is `open 0 8`, `open`, `unsatisfiable`,
 //! `refused 6`, `accepted` (not refused), `list 0 2 4 3` (the types under naming 0), `true k EX{f}k` (the places), `clean LINE / LINE / ..` (the clean sheet), or of a
-//! snapshot `row 3 2`. Each block with a sheet has to have one.
+//! snapshot `row 3 2`. Each block with a sheet has to have one. With ` within 12 128` behind it, or behind the sheet in the table of refusals, it is the answer
+//! within these limits.
 
 #[path = "compare/rules.rs"]
 mod rules;
 
-use rules::rules;
+use lockgraph::Limits;
+use rules::{rules, rules_within};
 use second_checker::closure::accept;
 use second_checker::formula::print;
+use second_checker::rules::Rules;
 use second_checker::tableau::in_type;
 use std::fmt::Display;
 use std::fs;
@@ -43,12 +46,13 @@ enum Asked {
     Snapshot(String, usize),
 }
 
-/// A sheet, what is asked of it, and what the guide says.
+/// A sheet, what is asked of it, within which limits if any, and what the guide says.
 #[derive(Clone)]
 struct Claim {
     line: usize,
     sheet: String,
     asked: Asked,
+    limits: Option<Limits>,
     answer: String,
 }
 
@@ -69,7 +73,7 @@ fn sheets_are_answered_as_the_guide_says() {
             "line {line}: {proved}, not {answer}: {sheet}"
         );
     }
-    for number in (1..=10).chain(13..=18) {
+    for number in (1..=10).chain(13..=19) {
         let refused = format!("refused {number}");
         assert!(
             claims.iter().any(|claim| claim.answer == refused),
@@ -102,42 +106,66 @@ fn proved(claim: &Claim) -> String {
     let sheet = claim.sheet.as_bytes();
     let answer = match &claim.asked {
         Asked::Snapshot(text, length) => {
-            lockgraph::snapshot(sheet, text.as_bytes(), &mut vec![0; *length]).map(row)
+            let (text, bytes) = (text.as_bytes(), &mut vec![0; *length]);
+            match claim.limits {
+                None => lockgraph::snapshot(sheet, text, bytes).map(row),
+                Some(limits) => lockgraph::snapshot_within(limits, sheet, text, bytes).map(row),
+            }
         }
-        Asked::List => lockgraph::list(sheet, 0, &mut [0; lockgraph::LIST_NUMBERS]).map(list),
-        Asked::Clean => lockgraph::clean(sheet, &mut [0; lockgraph::CLEAN_BYTES]).map(clean),
+        Asked::List => {
+            let types = &mut [0; Limits::MOST.list_numbers()];
+            match claim.limits {
+                None => lockgraph::list(sheet, 0, &mut types[..lockgraph::LIST_NUMBERS]).map(list),
+                Some(limits) => lockgraph::list_within(limits, sheet, 0, types).map(list),
+            }
+        }
+        Asked::Clean => {
+            let bytes = &mut [0; lockgraph::CLEAN_BYTES];
+            match claim.limits {
+                None => lockgraph::clean(sheet, bytes).map(clean),
+                Some(limits) => lockgraph::clean_within(limits, sheet, bytes).map(clean),
+            }
+        }
         // The library prints no places.
         Asked::Type(_) | Asked::Places(_) => return second(claim),
-        Asked::Verdict => lockgraph::verdict(sheet).map(|verdict| match verdict {
-            lockgraph::Verdict::Open {
-                naming,
-                type_number,
-            } => format!("open {naming} {type_number}"),
-            lockgraph::Verdict::Unsatisfiable => "unsatisfiable".to_string(),
-        }),
+        Asked::Verdict => match claim.limits {
+            None => lockgraph::verdict(sheet).map(judged),
+            Some(limits) => lockgraph::verdict_within(limits, sheet).map(judged),
+        },
     };
     answer.unwrap_or_else(|refusal| format!("refused {}", refusal.number()))
 }
 
+fn judged(verdict: lockgraph::Verdict) -> String {
+    match verdict {
+        lockgraph::Verdict::Open {
+            naming,
+            type_number,
+        } => format!("open {naming} {type_number}"),
+        lockgraph::Verdict::Unsatisfiable => "unsatisfiable".to_string(),
+    }
+}
+
 fn second(claim: &Claim) -> String {
     let sheet = claim.sheet.as_bytes();
+    let rules = claim.limits.map_or_else(rules, rules_within);
     let answer = match &claim.asked {
         Asked::Snapshot(text, length) => {
             let mut bytes = vec![0; *length];
-            second_checker::snapshot(rules(), sheet, text.as_bytes(), &mut bytes)
+            second_checker::snapshot(rules, sheet, text.as_bytes(), &mut bytes)
                 .map(|nodes| row(&bytes[..nodes]))
         }
         Asked::List => {
-            let mut types = [0; lockgraph::LIST_NUMBERS];
-            second_checker::list(rules(), sheet, 0, &mut types).map(|left| list(&types[..left]))
+            let mut types = [0; Limits::MOST.list_numbers()];
+            second_checker::list(rules, sheet, 0, &mut types).map(|left| list(&types[..left]))
         }
         Asked::Clean => {
             let mut bytes = [0; lockgraph::CLEAN_BYTES];
-            second_checker::clean(rules(), sheet, &mut bytes)
+            second_checker::clean(rules, sheet, &mut bytes)
                 .map(|long| clean(std::str::from_utf8(&bytes[..long]).expect("a text")))
         }
-        Asked::Type(type_) | Asked::Places(type_) => places(sheet, *type_),
-        Asked::Verdict => second_checker::verdict(rules(), sheet, 1).map(|verdict| match verdict {
+        Asked::Type(type_) | Asked::Places(type_) => places(rules, sheet, *type_),
+        Asked::Verdict => second_checker::verdict(rules, sheet, 1).map(|verdict| match verdict {
             second_checker::Verdict::Open { naming, type_ } => format!("open {naming} {type_}"),
             second_checker::Verdict::Unsatisfiable => "unsatisfiable".to_string(),
         }),
@@ -146,8 +174,8 @@ fn second(claim: &Claim) -> String {
 }
 
 /// The places that are true in a type, as the second checker prints them.
-fn places(sheet: &[u8], type_: usize) -> Result<String, u8> {
-    let accepted = accept(rules(), sheet)?;
+fn places(rules: Rules, sheet: &[u8], type_: usize) -> Result<String, u8> {
+    let accepted = accept(rules, sheet)?;
     let places = accepted.lean.iter().enumerate();
     let here = places.filter(|(place, _)| in_type(type_, *place));
     let prints = here.map(|(_, formula)| print(formula, &accepted.sheet.symbols));
@@ -213,6 +241,7 @@ fn claims(guide: &str) -> Vec<Claim> {
 
 /// Of a sheet alone: its clean text, its list or its places where the answer is such, else its verdict.
 fn verdict(at: usize, sheet: String, answer: &str) -> Claim {
+    let (answer, limits) = bounded(answer);
     let asked = match answer.split(' ').next() {
         Some("clean") => Asked::Clean,
         Some("refused") if answer == "refused 18" => Asked::Clean,
@@ -224,8 +253,19 @@ fn verdict(at: usize, sheet: String, answer: &str) -> Claim {
         line: at + 1,
         sheet,
         asked,
+        limits,
         answer: answer.to_string(),
     }
+}
+
+/// What stands before the limits, and these, if there are any.
+fn bounded(said: &str) -> (&str, Option<Limits>) {
+    let Some((answer, limits)) = said.split_once(" within ") else {
+        return (said, None);
+    };
+    let (lean, closure) = limits.split_once(' ').expect("two limits");
+    let [lean, closure] = [lean, closure].map(|limit| limit.parse().expect("a number"));
+    (answer, Some(Limits { lean, closure }))
 }
 
 fn commented(line: &str) -> Option<&str> {
@@ -328,9 +368,18 @@ fn of_row(at: usize, heading: &str, row: &str) -> Vec<Claim> {
             verdict(at, typed(cells[2]), "unsatisfiable"),
         ];
     }
+    of_refusal(at, heading, &cells)
+}
+
+/// A row of the tables of refusals, of sheets and of snapshots.
+fn of_refusal(at: usize, heading: &str, cells: &[&str]) -> Vec<Claim> {
     let refused = format!("refused {}", cells[0]);
     if heading.starts_with("| N | smallest sheet |") {
-        return vec![verdict(at, typed(cells[1]), &refused)];
+        let (_, limits) = bounded(cells[1]);
+        return vec![Claim {
+            limits,
+            ..verdict(at, typed(cells[1]), &refused)
+        }];
     }
     if heading.starts_with("| N | smallest snapshot |") {
         let (text, length) = (

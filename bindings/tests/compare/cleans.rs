@@ -2,12 +2,11 @@
 //! that the sheet has.
 
 use super::sheets::{self, Sheet};
-use super::{chance, rules, STACK, THREADS};
+use super::{chance, on_threads, rules};
 use lockgraph::{Refusal, ROW_BYTES, TABLE_WORDS};
 use second_checker::closure::accept;
 use second_checker::corpus::escape;
 use std::sync::atomic::{AtomicU64, Ordering};
-use std::thread;
 
 /// So many sheets that differ are kept by each thread; all are counted.
 const KEPT: usize = 10;
@@ -43,19 +42,11 @@ pub fn clean_sheets(sheets: u64, seed: u64) -> Cleans {
             done.take(&sheet, &picture);
         }
     };
-    thread::scope(|scope| {
-        let threads: Vec<_> = (0..THREADS)
-            .map(|_| {
-                let builder = thread::Builder::new().stack_size(STACK);
-                builder.spawn_scoped(scope, work).expect("a thread")
-            })
-            .collect();
-        let mut all = Cleans::default();
-        for thread in threads {
-            all.add(thread.join().expect("a thread that ends well"));
-        }
-        all
-    })
+    let mut all = Cleans::default();
+    for part in on_threads(work) {
+        all.add(part);
+    }
+    all
 }
 
 impl Cleans {

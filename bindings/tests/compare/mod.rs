@@ -6,7 +6,10 @@
 
 mod calls;
 pub mod cleans;
+mod larger;
+mod limits;
 mod names;
+mod outcomes;
 mod rules;
 mod second;
 mod seen;
@@ -16,8 +19,12 @@ mod stores;
 mod text;
 mod told;
 mod values;
+mod ways;
+pub mod within;
 
+use calls::Calls;
 use rules::rules;
+use second_checker::closure::accept;
 use second_checker::generate::Chance;
 use seen::Seen;
 use sheets::Sheet;
@@ -50,34 +57,45 @@ pub struct Comparison {
 /// in the others its answers are put together from what it said before about the same sheet.
 pub fn compare(calls: u64, seed: u64, twice: u64) -> Comparison {
     let next = AtomicU64::new(0);
-    let work = || worker(calls, seed, twice, &next);
+    let work = || {
+        let (mut comparison, mut stores) = (Comparison::default(), Stores::default());
+        each_block(calls, &next, |number, calls| {
+            let c = &mut chance(seed, number);
+            comparison.block(c, calls, number % twice == 0, &mut stores);
+        });
+        comparison
+    };
+    let mut all = Comparison::default();
+    for part in on_threads(work) {
+        all.add(part);
+    }
+    all
+}
+
+/// What each thread comes to.
+fn on_threads<T: Send>(work: impl Fn() -> T + Sync) -> Vec<T> {
     thread::scope(|scope| {
         let threads: Vec<_> = (0..THREADS)
             .map(|_| {
                 let builder = thread::Builder::new().stack_size(STACK);
-                builder.spawn_scoped(scope, work).expect("a thread")
+                builder.spawn_scoped(scope, &work).expect("a thread")
             })
             .collect();
-        let mut all = Comparison::default();
-        for thread in threads {
-            all.add(thread.join().expect("a thread that ends well"));
-        }
-        all
+        let ends = threads.into_iter().map(|thread| thread.join());
+        ends.map(|end| end.expect("a thread that ends well"))
+            .collect()
     })
 }
 
-/// Takes blocks until all calls are made.
-fn worker(calls: u64, seed: u64, twice: u64, next: &AtomicU64) -> Comparison {
-    let mut comparison = Comparison::default();
-    let mut stores = Stores::default();
+/// Takes blocks, each by its number and with its calls, until all calls are made.
+fn each_block(calls: u64, next: &AtomicU64, mut block: impl FnMut(u64, u64)) {
     loop {
         let number = next.fetch_add(1, Ordering::Relaxed);
         let left = calls.saturating_sub(number.saturating_mul(BLOCK));
         if left == 0 {
-            return comparison;
+            return;
         }
-        let c = &mut chance(seed, number);
-        comparison.block(c, left.min(BLOCK), number % twice == 0, &mut stores);
+        block(number, left.min(BLOCK));
     }
 }
 
@@ -96,8 +114,13 @@ impl Comparison {
         self.ask(c, &changed, calls - about_sound, twice, stores);
     }
 
+    /// Makes so many calls about a sheet.
     fn ask(&mut self, c: &mut Chance, sheet: &Sheet, calls: u64, twice: bool, stores: &mut Stores) {
-        let faults = calls::ask(c, sheet, calls, twice, stores, &mut self.seen);
+        let read = accept(rules(), &sheet.bytes);
+        let outcome = read.as_ref().map_or_else(|&number| number, |_| 0);
+        self.seen.count_sheet(sheet, outcome, calls);
+        let lent = (stores, &mut self.seen.outcomes);
+        let faults = Calls::about(c, sheet, (rules(), &read), twice, lent).make(c, calls);
         self.differ += faults.len() as u64;
         self.keep(faults);
     }

@@ -1,11 +1,12 @@
 //! The second checker's answers about one sheet.
 //!
 //! Its operations read the sheet and strike anew at each call, which takes most of the time. Here the sheet is read once, and each naming
-//! is struck once, by the second checker's own functions; an answer is then put together from these. Where `twice` is set each answer is
-//! compared with that of its operation, called with the same arguments, and a difference stops everything: the memory would be wrong.
+//! is struck once, by the second checker's own functions; an answer is then put together from these. Limits decide what is refused and
+//! nothing about striking, so what was struck serves under all of them. Where `twice` is set each answer is compared with that of its
+//! operation, called with the same arguments, and a difference stops everything: the memory would be wrong.
 
-use super::rules;
-use second_checker::closure::Accepted;
+use second_checker::closure::{accept, Accepted};
+use second_checker::rules::{Rules, WITHOUT};
 use second_checker::tableau::{Striking, Tableau};
 use second_checker::typeset::TypeSet;
 use second_checker::{clean, snapshot, stores, Refusal, Store, Verdict};
@@ -24,6 +25,9 @@ pub struct Table {
 
 pub struct Second<'a> {
     sheet: &'a [u8],
+    /// The rules in force, and what they refuse the sheet with.
+    rules: Rules,
+    refusal: Option<Refusal>,
     read: &'a Result<Accepted<'a>, Refusal>,
     tableau: Option<Tableau<'a>>,
     strikings: HashMap<u64, (Striking, TypeSet)>,
@@ -31,13 +35,17 @@ pub struct Second<'a> {
 }
 
 impl<'a> Second<'a> {
+    /// About a sheet as it was read by the rules in force.
     pub fn new(
         sheet: &'a [u8],
+        rules: Rules,
         read: &'a Result<Accepted<'a>, Refusal>,
         twice: bool,
     ) -> Second<'a> {
         Second {
             sheet,
+            rules,
+            refusal: read.as_ref().err().copied(),
             read,
             tableau: None,
             strikings: HashMap::new(),
@@ -45,37 +53,50 @@ impl<'a> Second<'a> {
         }
     }
 
+    /// From now on by other rules, which accept nothing that was refused when it was read. Gives the outcome of reading it by them.
+    pub fn judge_by(&mut self, rules: Rules) -> Refusal {
+        self.rules = rules;
+        self.refusal = accept(rules, self.sheet).err();
+        self.refusal.unwrap_or(0)
+    }
+
     pub fn table(&mut self, naming: u64, first: usize, second: usize) -> Result<Table, Refusal> {
         let answer = self.remembered_table(naming, first.min(second));
-        self.confirmed(answer, |sheet| asked_table(sheet, naming, first, second))
+        self.confirmed(answer, |rules, sheet| {
+            asked_table(rules, sheet, naming, first, second)
+        })
     }
 
     pub fn book(&mut self, length: usize) -> Result<Vec<u64>, Refusal> {
         let answer = self.remembered_book(length);
-        self.confirmed(answer, |sheet| {
+        self.confirmed(answer, |rules, sheet| {
             let mut store = stores::words(length).elements;
-            let count = second_checker::book(rules(), sheet, &mut store)?;
+            let count = second_checker::book(rules, sheet, &mut store)?;
             Ok(store[..count].to_vec())
         })
     }
 
     pub fn list(&mut self, naming: u64, length: usize) -> Result<Vec<u16>, Refusal> {
         let answer = self.remembered_list(naming, length);
-        self.confirmed(answer, |sheet| {
+        self.confirmed(answer, |rules, sheet| {
             let mut store = stores::numbers(length).elements;
-            let count = second_checker::list(rules(), sheet, naming, &mut store)?;
+            let count = second_checker::list(rules, sheet, naming, &mut store)?;
             Ok(store[..count].to_vec())
         })
     }
 
     pub fn verdict(&mut self) -> Result<Verdict, Refusal> {
         let answer = self.remembered_verdict();
-        self.confirmed(answer, |sheet| second_checker::verdict(rules(), sheet, 1))
+        self.confirmed(answer, |rules, sheet| {
+            second_checker::verdict(rules, sheet, 1)
+        })
     }
 
     pub fn goal_text(&self) -> Result<&'a [u8], Refusal> {
         let answer = self.accepted().map(|accepted| accepted.sheet.goal_texts[0]);
-        self.confirmed(answer, |sheet| second_checker::goal_text(rules(), sheet, 1))
+        self.confirmed(answer, |rules, sheet| {
+            second_checker::goal_text(rules, sheet, 1)
+        })
     }
 
     pub fn clean(&self, length: usize) -> Result<Vec<u8>, Refusal> {
@@ -87,18 +108,18 @@ impl<'a> Second<'a> {
                 Err(18)
             }
         });
-        self.confirmed(answer, |sheet| {
+        self.confirmed(answer, |rules, sheet| {
             let mut store = stores::bytes(length).elements;
-            let count = second_checker::clean(rules(), sheet, &mut store)?;
+            let count = second_checker::clean(rules, sheet, &mut store)?;
             Ok(store[..count].to_vec())
         })
     }
 
     pub fn snapshot(&self, text: &[u8], length: usize) -> Result<Vec<u8>, Refusal> {
         let answer = self.remembered_snapshot(text, length);
-        self.confirmed(answer, |sheet| {
+        self.confirmed(answer, |rules, sheet| {
             let mut row = stores::bytes(length).elements;
-            let nodes = second_checker::snapshot(rules(), sheet, text, &mut row)?;
+            let nodes = second_checker::snapshot(rules, sheet, text, &mut row)?;
             Ok(row[..nodes].to_vec())
         })
     }
@@ -115,6 +136,12 @@ impl<'a> Second<'a> {
             .map_or(0, |(striking, _)| striking.left)
     }
 
+    /// After how many rounds; 0 where it has no such naming.
+    pub fn rounds(&mut self, naming: u64) -> usize {
+        self.striking(naming)
+            .map_or(0, |(striking, _)| striking.rounds)
+    }
+
     /// How many bytes the clean sheet has; 0 where the sheet is refused.
     pub fn clean_length(&self) -> usize {
         self.accepted()
@@ -128,19 +155,48 @@ impl<'a> Second<'a> {
             .map_or(0, |snapshot| snapshot.nodes())
     }
 
+    /// How many words each store of Table must have; where the limits are refused, those of the usual ones.
+    pub fn table_words(&self) -> usize {
+        let limits = self.rules.limits_in_range();
+        limits.unwrap_or(WITHOUT).table_words()
+    }
+
+    /// How much there is to strike under all namings of the sheet, as it was read: each has some work of its own, and the types at its
+    /// start, by those of the first.
+    pub fn cost(&mut self) -> u64 {
+        let Ok(accepted) = self.read else {
+            return 0;
+        };
+        let start = self.struck(accepted, 0).0.start;
+        let each = 256 + start * accepted.words();
+        accepted.namings().saturating_mul(each as u64)
+    }
+
+    /// Whether some type has the goal under one of the first namings of the sheet, as it was read.
+    pub fn is_open_under_first(&mut self, namings: u64) -> bool {
+        let Ok(accepted) = self.read else {
+            return false;
+        };
+        (0..namings.min(accepted.namings()))
+            .any(|naming| self.least_goal_type(accepted, naming).is_some())
+    }
+
     fn accepted(&self) -> Result<&'a Accepted<'a>, Refusal> {
-        self.read.as_ref().map_err(|&number| number)
+        match self.refusal {
+            Some(number) => Err(number),
+            None => self.read.as_ref().map_err(|&number| number),
+        }
     }
 
     fn confirmed<T: Debug + PartialEq>(
         &self,
         answer: Result<T, Refusal>,
-        ask: impl FnOnce(&'a [u8]) -> Result<T, Refusal>,
+        ask: impl FnOnce(Rules, &'a [u8]) -> Result<T, Refusal>,
     ) -> Result<T, Refusal> {
         if self.twice {
             assert_eq!(
                 answer,
-                ask(self.sheet),
+                ask(self.rules, self.sheet),
                 "remembered, and asked of the second checker"
             );
         }
@@ -153,15 +209,24 @@ impl<'a> Second<'a> {
         if naming >= accepted.namings() {
             return Err(11);
         }
+        Ok(self.struck(accepted, naming))
+    }
+
+    fn struck(&mut self, accepted: &'a Accepted<'a>, naming: u64) -> &(Striking, TypeSet) {
         let tableau = self.tableau.get_or_insert_with(|| Tableau::new(accepted));
-        Ok(self
-            .strikings
+        self.strikings
             .entry(naming)
-            .or_insert_with(|| tableau.standing(naming)))
+            .or_insert_with(|| tableau.standing(naming))
+    }
+
+    fn least_goal_type(&mut self, accepted: &'a Accepted<'a>, naming: u64) -> Option<usize> {
+        let standing = self.struck(accepted, naming).1.clone();
+        let tableau = self.tableau.as_ref().expect("made for the striking");
+        tableau.least_goal_type(0, &standing)
     }
 
     fn remembered_table(&mut self, naming: u64, shorter: usize) -> Result<Table, Refusal> {
-        let needed = self.accepted()?.limits.table_words();
+        let needed = self.table_words();
         let (striking, standing) = self.striking(naming)?;
         if shorter < needed {
             return Err(12);
@@ -201,10 +266,9 @@ impl<'a> Second<'a> {
     }
 
     fn remembered_verdict(&mut self) -> Result<Verdict, Refusal> {
-        for naming in 0..self.accepted()?.namings() {
-            let standing = self.striking(naming)?.1.clone();
-            let tableau = self.tableau.as_ref().expect("made for the striking");
-            if let Some(type_) = tableau.least_goal_type(0, &standing) {
+        let accepted = self.accepted()?;
+        for naming in 0..accepted.namings() {
+            if let Some(type_) = self.least_goal_type(accepted, naming) {
                 let type_ = type_ as u16;
                 return Ok(Verdict::Open { naming, type_ });
             }
@@ -223,12 +287,18 @@ impl<'a> Second<'a> {
 }
 
 /// Table with stores of these lengths.
-fn asked_table(sheet: &[u8], naming: u64, first: usize, second: usize) -> Result<Table, Refusal> {
+fn asked_table(
+    rules: Rules,
+    sheet: &[u8],
+    naming: u64,
+    first: usize,
+    second: usize,
+) -> Result<Table, Refusal> {
     let (mut first, mut second) = (
         stores::words(first).elements,
         stores::words(second).elements,
     );
-    let table = second_checker::table(rules(), sheet, naming, &mut first, &mut second)?;
+    let table = second_checker::table(rules, sheet, naming, &mut first, &mut second)?;
     let words = first[..table.words].to_vec();
     assert_eq!(words, second[..table.words], "both stores have the same");
     Ok(Table {

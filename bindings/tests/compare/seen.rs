@@ -1,17 +1,17 @@
-//! Which outcomes the calls had, so that nothing passes for want of calls.
+//! What the calls without limits had, so that nothing passes for want of calls.
 
 use super::names::{self, NAMES};
+use super::outcomes::Outcomes;
 use super::sheets::Sheet;
 use super::spelling::{self, SPELLINGS};
 use super::values::{self, VALUES};
-use std::collections::BTreeMap;
 use std::fmt;
 
-/// How often each operation had each outcome, how many sheets had each spelling and each declaration of values and names, and how many
-/// calls were about accepted sheets with values, or with two names that occur. An outcome is a refusal's number, or 0.
+/// The outcomes, how many sheets had each spelling and each declaration of values and names, and how many calls were about accepted
+/// sheets with values, or with two names that occur.
 #[derive(Default)]
 pub struct Seen {
-    counts: BTreeMap<(&'static str, u8), u64>,
+    pub outcomes: Outcomes,
     spellings: [u64; SPELLINGS.len()],
     values: [u64; VALUES.len()],
     about_values: u64,
@@ -20,11 +20,6 @@ pub struct Seen {
 }
 
 impl Seen {
-    pub fn count<T>(&mut self, operation: &'static str, outcome: &Result<T, u8>) {
-        let number = outcome.as_ref().map_or_else(|&number| number, |_| 0);
-        *self.counts.entry((operation, number)).or_default() += 1;
-    }
-
     /// A sheet that so many calls are about, with its outcome.
     pub fn count_sheet(&mut self, sheet: &Sheet, outcome: u8, calls: u64) {
         for place in spelling::spellings(&sheet.bytes, outcome) {
@@ -47,9 +42,7 @@ impl Seen {
 
     /// Adds what others have seen.
     pub fn add(&mut self, other: &Seen) {
-        for (key, count) in &other.counts {
-            *self.counts.entry(*key).or_default() += count;
-        }
+        self.outcomes.add(&other.outcomes);
         for (place, count) in other.spellings.iter().enumerate() {
             self.spellings[place] += count;
         }
@@ -64,14 +57,12 @@ impl Seen {
     }
 
     pub fn calls(&self) -> u64 {
-        self.counts.values().sum()
+        self.outcomes.calls()
     }
 
-    /// The outcomes that an operation can have and had not.
+    /// The outcomes that an operation can have and had not. Each is refused a sheet for the same ten reasons.
     pub fn missing(&self) -> Vec<(&'static str, u8)> {
-        possible()
-            .filter(|key| !self.counts.contains_key(key))
-            .collect()
+        self.outcomes.missing(&[0, 1, 2, 3, 4, 5, 6, 7, 8, 9, 10])
     }
 
     /// The spellings and the declarations of values and names, each with its outcome, and how many sheets had them.
@@ -97,27 +88,9 @@ impl Seen {
 impl fmt::Display for Seen {
     /// A line for each operation, for each spelling and declaration, and for the calls about values and about two names.
     fn fmt(&self, f: &mut fmt::Formatter<'_>) -> fmt::Result {
-        let mut line = "";
-        for ((operation, number), count) in &self.counts {
-            if *operation != line {
-                let before = if line.is_empty() { "" } else { "\n" };
-                write!(f, "{before}{operation}: ")?;
-                line = operation;
-            } else {
-                write!(f, ", ")?;
-            }
-            match number {
-                0 => write!(f, "{count} answered")?,
-                _ => write!(f, "{count} refused {number}")?,
-            }
-        }
-        writeln!(f)?;
+        write!(f, "{}", self.outcomes)?;
         for (shape, outcome, count) in self.shapes() {
-            let sheets = match outcome {
-                0 => "accepted".to_string(),
-                _ => format!("refused {outcome}"),
-            };
-            writeln!(f, "{shape}: {count} sheets {sheets}")?;
+            write_shape(f, shape, outcome, count)?;
         }
         writeln!(
             f,
@@ -132,20 +105,15 @@ impl fmt::Display for Seen {
     }
 }
 
-/// Each operation is refused a sheet for the same ten reasons, and has further ones of its own.
-fn possible() -> impl Iterator<Item = (&'static str, u8)> {
-    const OWN: [(&str, &[u8]); 7] = [
-        ("table", &[11, 12]),
-        ("book", &[12]),
-        ("list", &[11, 12]),
-        ("verdict", &[]),
-        ("goal", &[]),
-        ("clean", &[18]),
-        ("snapshot", &[13, 14, 15, 16, 17]),
-    ];
-    OWN.into_iter().flat_map(|(operation, own)| {
-        (0..=10)
-            .chain(own.iter().copied())
-            .map(move |number| (operation, number))
-    })
+/// A line for what so many sheets with an outcome had.
+pub fn write_shape(
+    f: &mut fmt::Formatter<'_>,
+    shape: &str,
+    outcome: u8,
+    count: u64,
+) -> fmt::Result {
+    match outcome {
+        0 => writeln!(f, "{shape}: {count} sheets accepted"),
+        _ => writeln!(f, "{shape}: {count} sheets refused {outcome}"),
+    }
 }

@@ -20,7 +20,7 @@ pub struct Sheet {
 }
 
 impl Sheet {
-    fn of(draft: &Draft) -> Sheet {
+    pub fn of(draft: &Draft) -> Sheet {
         Sheet {
             bytes: draft.bytes(),
             symbols: draft.symbols.clone(),
@@ -65,7 +65,7 @@ pub fn sound(c: &mut Chance) -> Sheet {
 }
 
 /// What is wished of the generator of the requests: the present level, and of it any request.
-fn wish(c: &mut Chance) -> Wish {
+pub fn wish(c: &mut Chance) -> Wish {
     let level = rules().level;
     let focus = c.between(1, usize::from(level)) as u8;
     Wish { level, focus }

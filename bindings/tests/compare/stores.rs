@@ -16,7 +16,7 @@ impl Element for u8 {
 }
 
 impl Element for u16 {
-    /// A type is below 256.
+    /// A type is below 4,096.
     fn pattern(place: usize) -> u16 {
         0x8000 | (place as u16).wrapping_mul(40_503)
     }

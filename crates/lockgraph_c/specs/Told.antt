@@ -1,4 +1,4 @@
--- What a caller in C is told of each answer of the library: the refusal's number, or 0, and what the lent array `out` then holds, which is what it held before where the answer is a refusal. Assumes nothing.
+-- What a caller in C is told of each answer of the library under limits (without any, `usual`): the refusal's number, or 0, and what the lent array `out` then holds, which is what it held before where the answer is a refusal. Assumes nothing.
 use mathlib.Core.Path.{_≡_}
 use mathlib.Core.Bool.{cond}
 use mathlib.Core.List.{List, [], _∷_}
@@ -6,7 +6,8 @@ use Prim.Native.Nat.{ℕ, _%_}
 use lib.Dec.{eqb}
 use lib.ListN.{length, take, drop}
 use Rattle.sheet.specs.Sheet.{goalStart, goalUnder}
-use Rattle.reader.specs.Reader.{refusalOf}
+use Rattle.limits.specs.declared.Limits.{Limits}
+use Rattle.limits.specs.Limits.{refusalUnder}
 use Rattle.outcomes.specs.declared.TableAnswer.{TableAnswer}
 use Rattle.outcomes.specs.declared.TableAnswer.the-variants as Table
 use Rattle.outcomes.specs.declared.BookAnswer.{BookAnswer}
@@ -38,11 +39,11 @@ tableNumbers (Table.Refused k) out = out
 tableNumbers (Table.Done words start left rounds) out = words ∷ start ∷ left ∷ rounds ∷ writtenLast rounds ∷ []
 
 -- k and out′ are told of the one answer that the library gives, and the stores are as it leaves them
-pub record TableTold (s : List ℕ) (r : ℕ) (first second out : List ℕ) (k : ℕ) (first′ second′ out′ : List ℕ) : Type 0 where
+pub record TableTold (l : Limits) (s : List ℕ) (r : ℕ) (first second out : List ℕ) (k : ℕ) (first′ second′ out′ : List ℕ) : Type 0 where
   pub answer : TableAnswer
-  pub is : TableIs s r first second answer first′ second′
+  pub is : TableIs l s r first second answer first′ second′
   pub closed : TableDemand2 s r answer first′ second′
-  pub whole : TableDemand3 s r answer first′ second′
+  pub whole : TableDemand3 l s r answer first′ second′
   pub number : k ≡ tableNumber answer
   pub numbers : out′ ≡ tableNumbers answer out
 
@@ -56,9 +57,9 @@ abbrev pub bookNumbers : BookAnswer → List ℕ → List ℕ
 bookNumbers (Book.Refused k) out = out
 bookNumbers (Book.Done namings words) out = namings ∷ words ∷ []
 
-pub record BookTold (s d out : List ℕ) (k : ℕ) (d′ out′ : List ℕ) : Type 0 where
+pub record BookTold (l : Limits) (s d out : List ℕ) (k : ℕ) (d′ out′ : List ℕ) : Type 0 where
   pub answer : BookAnswer
-  pub is : BookIs s d answer d′
+  pub is : BookIs l s d answer d′
   pub number : k ≡ bookNumber answer
   pub numbers : out′ ≡ bookNumbers answer out
 
@@ -72,9 +73,9 @@ abbrev pub listNumbers : ListAnswer → List ℕ → List ℕ
 listNumbers (Listing.Refused k) out = out
 listNumbers (Listing.Done left) out = left ∷ []
 
-pub record ListTold (s : List ℕ) (r : ℕ) (d out : List ℕ) (k : ℕ) (d′ out′ : List ℕ) : Type 0 where
+pub record ListTold (l : Limits) (s : List ℕ) (r : ℕ) (d out : List ℕ) (k : ℕ) (d′ out′ : List ℕ) : Type 0 where
   pub answer : ListAnswer
-  pub is : ListIs s r d answer d′
+  pub is : ListIs l s r d answer d′
   pub number : k ≡ listNumber answer
   pub numbers : out′ ≡ listNumbers answer out
 
@@ -91,11 +92,11 @@ verdictNumbers (Judging.Refused k) out = out
 verdictNumbers (Judging.Open r t) out = 1 ∷ r ∷ t ∷ []
 verdictNumbers Judging.Unsatisfiable out = 2 ∷ 0 ∷ 0 ∷ []
 
-pub record VerdictTold (s out : List ℕ) (k : ℕ) (out′ : List ℕ) : Type 0 where
-  pub closed : VerdictDemand2 s (verdictOf s)
-  pub whole : VerdictDemand3 s (verdictOf s)
-  pub number : k ≡ verdictNumber (verdictOf s)
-  pub numbers : out′ ≡ verdictNumbers (verdictOf s) out
+pub record VerdictTold (l : Limits) (s out : List ℕ) (k : ℕ) (out′ : List ℕ) : Type 0 where
+  pub closed : VerdictDemand2 l s (verdictOf l s)
+  pub whole : VerdictDemand3 l s (verdictOf l s)
+  pub number : k ≡ verdictNumber (verdictOf l s)
+  pub numbers : out′ ≡ verdictNumbers (verdictOf l s) out
 
 -- ---- Snapshot
 
@@ -107,10 +108,10 @@ abbrev pub snapshotNumbers : SnapshotAnswer → List ℕ → List ℕ
 snapshotNumbers (Judged.Refused k) out = out
 snapshotNumbers (Judged.Done nodes) out = nodes ∷ []
 
-pub record SnapshotTold (s t row out : List ℕ) (k : ℕ) (row′ out′ : List ℕ) : Type 0 where
+pub record SnapshotTold (l : Limits) (s t row out : List ℕ) (k : ℕ) (row′ out′ : List ℕ) : Type 0 where
   pub answer : SnapshotAnswer
-  pub is : SnapshotIs s t row answer row′
-  pub means : SnapshotMeans s t answer row′
+  pub is : SnapshotIs l s t row answer row′
+  pub means : SnapshotMeans l s t answer row′
   pub number : k ≡ snapshotNumber answer
   pub numbers : out′ ≡ snapshotNumbers answer out
 
@@ -124,9 +125,9 @@ abbrev pub cleanNumbers : CleanAnswer → List ℕ → List ℕ
 cleanNumbers (Cleaned.Refused k) out = out
 cleanNumbers (Cleaned.Done long) out = long ∷ []
 
-pub record CleanTold (s d out : List ℕ) (k : ℕ) (d′ out′ : List ℕ) : Type 0 where
+pub record CleanTold (l : Limits) (s d out : List ℕ) (k : ℕ) (d′ out′ : List ℕ) : Type 0 where
   pub answer : CleanAnswer
-  pub is : CleanIs s d answer d′
+  pub is : CleanIs l s d answer d′
   pub number : k ≡ cleanNumber answer
   pub numbers : out′ ≡ cleanNumbers answer out
 
@@ -137,7 +138,7 @@ abbrev pub goalNumbers : List ℕ → ℕ → List ℕ → List ℕ
 goalNumbers s k out = cond (eqb k 0) (goalStart s k ∷ length (goalUnder s k) ∷ []) out
 
 -- that is told of it, and it is that part of the sheet
-pub record GoalTold (s out : List ℕ) (k : ℕ) (out′ : List ℕ) : Type 0 where
-  pub number : k ≡ refusalOf s
-  pub numbers : out′ ≡ goalNumbers s (refusalOf s) out
-  pub lies : goalUnder s (refusalOf s) ≡ take (length (goalUnder s (refusalOf s))) (drop (goalStart s (refusalOf s)) s)
+pub record GoalTold (l : Limits) (s out : List ℕ) (k : ℕ) (out′ : List ℕ) : Type 0 where
+  pub number : k ≡ refusalUnder l s
+  pub numbers : out′ ≡ goalNumbers s (refusalUnder l s) out
+  pub lies : goalUnder s (refusalUnder l s) ≡ take (length (goalUnder s (refusalUnder l s))) (drop (goalStart s (refusalUnder l s)) s)

@@ -1,23 +1,23 @@
--- `lockgraph_clean` meets its contract. Assumes nothing.
+-- `lockgraph_clean_within` meets its contract. Assumes nothing.
 use Rattle.lockgraph_c.proofs.ToldLaws.{clean-done, clean-refused}
 use borrow.Author.Needs.{needs}
-use Rattle.lockgraph_c.proofs.lockgraph_clean.Statement.{statement}
-use Rattle.lockgraph_c.proofs.lockgraph_clean.Tie as tie
+use Rattle.lockgraph_c.proofs.cleans.lockgraph_clean_within.Statement.{statement}
+use Rattle.lockgraph_c.proofs.cleans.lockgraph_clean_within.Tie as tie
 
 returns : tie.Need-returns
 returns c =
     let b1 = c .before in
     let b5 = b1 .before .before .before .before in
-    clean-refused (b5 .clean .ensures) (b1 .k .given .1)
+    clean-refused (b5 .clean-within .ensures) (b1 .k .given .1)
 
 returns-2 : tie.Need-returns-2
 returns-2 c =
     let b2 = c .before .before in
     let b6 = b2 .before .before .before .before in
-    clean-done (b6 .clean .ensures) (b2 .length .given .1)
+    clean-done (b6 .clean-within .ensures) (b2 .length .given .1)
 
-pub lockgraph-clean-spec : {M : Type 1} → statement M
-lockgraph-clean-spec =
+pub lockgraph-clean-within-spec : {M : Type 1} → statement M
+lockgraph-clean-within-spec =
     tie.close
     (tie.spec
     (λ c κs. search needs)
