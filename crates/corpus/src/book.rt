@@ -7,8 +7,9 @@ use corpus_text::store::fill_words;
 use corpus_text::store::words_kept;
 use corpus_text::sums::write_book;
 use lockgraph::BookAnswer;
+use lockgraph::Limits;
 
-// No store has room for so many namings, or for tables of so many words.
+// The words of the longest store, which has room for every book under the usual limits.
 const MOST: usize = 65536;
 
 // The words of a table for each naming; where no store has room for them, more than any store has.
@@ -23,9 +24,9 @@ fn words_of(namings: u64, words: usize) -> usize {
 }
 
 // Book with the store given.
-fn book_with(sheet: &[u8], store: &mut [u64]) {
+fn book_with(l: Limits, sheet: &[u8], store: &mut [u64]) {
     fill_words(store);
-    let answer = lockgraph::book(sheet, store);
+    let answer = lockgraph::book_within(l, sheet, store);
     match answer {
         BookAnswer::Refused(k) => {
             write_refused(k);
@@ -35,9 +36,29 @@ fn book_with(sheet: &[u8], store: &mut [u64]) {
     }
 }
 
-pub fn book(line: &[u8], sheet: &[u8], length: u64) {
-    let mut store = [0u64; 20480];
-    let n = at_most(length, 20480);
+// Book with a short store: most are, and clearing the longest would cost more than the call.
+fn book_short(l: Limits, sheet: &[u8], length: u64) {
+    let mut store = [0u64; 512];
+    let n = at_most(length, 512);
+    book_with(l, sheet, &mut store[0..n]);
+}
+
+fn book_long(l: Limits, sheet: &[u8], length: u64) {
+    let mut store = [0u64; 65536];
+    let n = at_most(length, 65536);
+    book_with(l, sheet, &mut store[0..n]);
+}
+
+// The outcome, unless the program has no store so long: a shorter one may have to be refused.
+pub fn book(l: Limits, line: &[u8], sheet: &[u8], length: u64) -> bool {
+    if (MOST as u64) < length {
+        return false;
+    }
     write_operation(line);
-    book_with(sheet, &mut store[0..n]);
+    if length <= 512 {
+        book_short(l, sheet, length);
+    } else {
+        book_long(l, sheet, length);
+    }
+    true
 }

@@ -7,11 +7,12 @@ use corpus_text::outcome::write_refused;
 use corpus_text::store::bytes_kept;
 use corpus_text::store::fill_bytes;
 use lockgraph::CleanAnswer;
+use lockgraph::Limits;
 
 // Clean with the store given.
-fn clean_with(sheet: &[u8], store: &mut [u8]) {
+fn clean_with(l: Limits, sheet: &[u8], store: &mut [u8]) {
     fill_bytes(store);
-    let answer = lockgraph::clean(sheet, store);
+    let answer = lockgraph::clean_within(l, sheet, store);
     match answer {
         CleanAnswer::Refused(k) => {
             write_refused(k);
@@ -21,9 +22,9 @@ fn clean_with(sheet: &[u8], store: &mut [u8]) {
     }
 }
 
-pub fn clean(line: &[u8], sheet: &[u8], length: u64) {
+pub fn clean(l: Limits, line: &[u8], sheet: &[u8], length: u64) {
     let mut store = [0u8; 2048];
     let n = at_most(length, 2048);
     write_operation(line);
-    clean_with(sheet, &mut store[0..n]);
+    clean_with(l, sheet, &mut store[0..n]);
 }

@@ -7,12 +7,13 @@ use corpus_text::rows::write_row;
 use corpus_text::store::bytes_kept;
 use corpus_text::store::fill_bytes;
 use corpus_text::text::unescape;
+use lockgraph::Limits;
 use lockgraph::SnapshotAnswer;
 
 // Snapshot with the row given.
-fn snapshot_with(sheet: &[u8], text: &[u8], row: &mut [u8]) {
+fn snapshot_with(l: Limits, sheet: &[u8], text: &[u8], row: &mut [u8]) {
     fill_bytes(row);
-    let answer = lockgraph::snapshot(sheet, text, row);
+    let answer = lockgraph::snapshot_within(l, sheet, text, row);
     match answer {
         SnapshotAnswer::Refused(k) => {
             write_refused(k);
@@ -22,14 +23,14 @@ fn snapshot_with(sheet: &[u8], text: &[u8], row: &mut [u8]) {
     }
 }
 
-fn snapshot_of(sheet: &[u8], text: &[u8], length: u64) {
+fn snapshot_of(l: Limits, sheet: &[u8], text: &[u8], length: u64) {
     let mut row = [0u8; 64];
     let n = at_most(length, 64);
-    snapshot_with(sheet, text, &mut row[0..n]);
+    snapshot_with(l, sheet, text, &mut row[0..n]);
 }
 
 // The outcome for a text that is escaped, unless it is none. A longer one than the store is as wrong as one that just fills it.
-pub fn snapshot(operation: &[u8], sheet: &[u8], escaped: &[u8], length: u64) -> bool {
+pub fn snapshot(l: Limits, operation: &[u8], sheet: &[u8], escaped: &[u8], length: u64) -> bool {
     let mut text = [0u8; 1025];
     let r = unescape(escaped, &mut text);
     let n = r.count;
@@ -40,6 +41,6 @@ pub fn snapshot(operation: &[u8], sheet: &[u8], escaped: &[u8], length: u64) -> 
         return false;
     }
     write_operation(operation);
-    snapshot_of(sheet, &text[0..n], length);
+    snapshot_of(l, sheet, &text[0..n], length);
     true
 }

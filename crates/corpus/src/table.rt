@@ -8,6 +8,7 @@ use corpus_text::outcome::write_words;
 use corpus_text::store::fill_words;
 use corpus_text::store::same_words;
 use corpus_text::store::words_kept;
+use lockgraph::Limits;
 use lockgraph::TableAnswer;
 
 // The first of some words, or another one where there is none.
@@ -83,18 +84,18 @@ fn write_answer(first: &mut [u64], second: &[u64], answer: TableAnswer) {
 }
 
 // Table with the stores given.
-fn table_with(sheet: &[u8], naming: u64, first: &mut [u64], second: &mut [u64]) {
+fn table_with(l: Limits, sheet: &[u8], naming: u64, first: &mut [u64], second: &mut [u64]) {
     fill_words(first);
     fill_words(second);
-    let answer = lockgraph::table(sheet, naming, first, second);
+    let answer = lockgraph::table_within(l, sheet, naming, first, second);
     write_answer(first, second, answer);
 }
 
-pub fn table(line: &[u8], sheet: &[u8], naming: u64, one: u64, other: u64) {
-    let mut first = [0u64; 64];
-    let mut second = [0u64; 64];
-    let a = at_most(one, 64);
-    let b = at_most(other, 64);
+pub fn table(l: Limits, line: &[u8], sheet: &[u8], naming: u64, one: u64, other: u64) {
+    let mut first = [0u64; 128];
+    let mut second = [0u64; 128];
+    let a = at_most(one, 128);
+    let b = at_most(other, 128);
     write_operation(line);
-    table_with(sheet, naming, &mut first[0..a], &mut second[0..b]);
+    table_with(l, sheet, naming, &mut first[0..a], &mut second[0..b]);
 }

@@ -1,11 +1,13 @@
 // The outcomes of the operations that take a sheet alone: Verdict, the goal's text, and what the program prints.
+use corpus_text::outcome::write_operation;
 use corpus_text::outcome::write_refused;
 use corpus_text::text::write_escaped;
+use lockgraph::Limits;
 use lockgraph::VerdictAnswer;
 
-pub fn verdict(sheet: &[u8]) {
-    io::write_all(1, b"verdict:");
-    let answer = lockgraph::verdict(sheet);
+pub fn verdict(l: Limits, line: &[u8], sheet: &[u8]) {
+    write_operation(line);
+    let answer = lockgraph::verdict_within(l, sheet);
     match answer {
         VerdictAnswer::Refused(k) => write_refused(k),
         VerdictAnswer::Open { naming, least } => {
@@ -21,12 +23,12 @@ pub fn verdict(sheet: &[u8]) {
     io::write_all(1, b"\n");
 }
 
-pub fn goal(sheet: &[u8]) {
-    let k = lockgraph::refusal(sheet);
-    io::write_all(1, b"goal:");
+pub fn goal(l: Limits, line: &[u8], sheet: &[u8]) {
+    let k = lockgraph::refusal_within(l, sheet);
+    write_operation(line);
     if k == 0 {
         io::write_all(1, b" ");
-        write_escaped(lockgraph::goal_text(sheet));
+        write_escaped(lockgraph::goal_text_within(l, sheet));
     } else {
         write_refused(k);
     }
@@ -34,8 +36,9 @@ pub fn goal(sheet: &[u8]) {
 }
 
 // Only the ends of the program's lines have to be escaped: all other bytes that it prints stand for themselves.
-pub fn program(sheet: &[u8]) {
-    io::write_all(1, b"program: ");
-    report::report(sheet, b"\\n");
+pub fn program(l: Limits, line: &[u8], sheet: &[u8]) {
+    write_operation(line);
+    io::write_all(1, b" ");
+    report::report(l, sheet, b"\\n");
     io::write_all(1, b"\n");
 }

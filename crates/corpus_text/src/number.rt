@@ -1,12 +1,20 @@
-// Decimal numbers of a line: digits without a sign, up to a space or the line's end.
+// Decimal numbers of a line: digits without a sign, up to a space or the line's end; and two of them with a slash between.
 ghost use Prim.Native.Nat.{_≤_};
 
 // The largest number whose tenfold fits.
 const MOST_TENFOLD: u64 = 1844674407370955161;
 
-// A number, and where the next one of the line begins.
+// A number, and the place behind the space that ends it: past the line's end where nothing is left.
 pub struct Number {
     pub value: u64,
+    pub next: usize,
+    pub right: bool,
+}
+
+// Two numbers, and the place behind the space that ends them.
+pub struct Pair {
+    pub first: u64,
+    pub second: u64,
     pub next: usize,
     pub right: bool,
 }
@@ -81,14 +89,7 @@ pub fn number_at(line: &[u8], at: usize) -> Number {
     }
     let end = layout::end_of(32, line, at);
     let d = number_of(&line[at..end]);
-    if !d.right {
-        return Number {
-            value: 0,
-            next: n,
-            right: false,
-        };
-    }
-    if end < n {
+    if d.right {
         return Number {
             value: d.value,
             next: end + 1,
@@ -96,9 +97,50 @@ pub fn number_at(line: &[u8], at: usize) -> Number {
         };
     }
     Number {
-        value: d.value,
-        next: n,
-        right: true,
+        value: 0,
+        next: n + 1,
+        right: false,
+    }
+}
+
+// The number is right, and the line's last.
+pub fn ends(line: &[u8], number: Number) -> bool {
+    number.right && line.len() < number.next
+}
+
+// The word that begins at a place of the line has a slash.
+pub fn has_slash(line: &[u8], at: usize) -> bool {
+    if line.len() < at {
+        return false;
+    }
+    let end = layout::end_of(32, line, at);
+    layout::has_byte(47, &line[at..end])
+}
+
+// The two numbers of the word that begins at a place of the line: before its first slash, and behind it.
+pub fn pair_at(line: &[u8], at: usize) -> Pair {
+    let wrong = Pair {
+        first: 0,
+        second: 0,
+        next: at,
+        right: false,
+    };
+    if line.len() < at {
+        return wrong;
+    }
+    let end = layout::end_of(32, line, at);
+    let slash = layout::end_of(47, line, at);
+    if end <= slash {
+        return wrong;
+    }
+    let behind = slash + 1;
+    let first = number_of(&line[at..slash]);
+    let second = number_of(&line[behind..end]);
+    Pair {
+        first: first.value,
+        second: second.value,
+        next: end + 1,
+        right: first.right && second.right,
     }
 }
 
