@@ -63,9 +63,6 @@ module _ {s : List ℕ} {u : Setup} (x : Accepts s u) where
   unfolding wordsIn
   words-are = framed .words-are ∙ ap wordsFor (sym lean-length)
 
-  pub types-within : 2 ^ length (S .ln) ≤ wordsIn s * 64
-  types-within = subst (λ w. 2 ^ length (S .ln) ≤ w * 64) words-are (subst (λ n. 2 ^ n ≤ u .words * 64) (sym lean-length) enough)
-
   -- what a store holds that has a naming's surviving types in its first words
   pub store-lists : (r : ℕ) (d d′ : List ℕ) → u .words ≤ length d → d′ ≡ packed (wordsIn s) (λ t. elem t (survivingTypes S r)) d → listOf (u .words) d′ ≡ survivingTypes S r
   store-lists r d d′ h e =

@@ -1,15 +1,13 @@
 -- From a reading to a set-up, call by call. Assumes nothing.
 use mathlib.Core.Path.{_≡_, refl, sym, ap, _∙_}
 use mathlib.Core.List.{List}
-use mathlib.Core.Logic.{_⊎_, inl, inr}
-use Prim.Native.Nat.{ℕ, _≤_, _<_}
+use Prim.Native.Nat.{ℕ, _≤_}
 use native.Mathlib.Omega.{arith}
 use lib.Dec.{eqb}
 use lib.ListN.{length, getD, length-map, take}
 use lib.Seq.{length-take-le}
 use Rattle.ctl.proofs.ListLaws.{kept-few}
 use Rattle.ctl.proofs.LeanOrder.{with-length}
-use Rattle.wordset.proofs.BelowLaws.{lt-or-le}
 use Rattle.head.specs.Head.{kinds}
 use Rattle.head.proofs.Spellings.{sheet-spellings}
 use Rattle.sheet.proofs.RefusalLaws.{right-kinds}

@@ -3,7 +3,7 @@ use mathlib.Core.Path.{_≡_, refl, sym, ap, _∙_, subst}
 use mathlib.Core.Bool.{Bool, true, false, _||_, cond}
 use mathlib.Core.List.{List}
 use mathlib.Core.Logic.{_⊎_, inl, inr}
-use Prim.Native.Nat.{ℕ, zero, suc, _≤_, _<_}
+use Prim.Native.Nat.{ℕ, _≤_, _<_}
 use native.Mathlib.Omega.{arith}
 use lib.Dec.{ltb}
 use lib.ListN.{length}
@@ -15,7 +15,7 @@ use Rattle.sheet.specs.Refusal.{readRefusal}
 use Rattle.reader.specs.declared.Reading.{Reading}
 use Rattle.reader.specs.declared.Refusal.the-variants as Refusal
 use Rattle.reader.specs.Reader.{ReadIs, blank, members, places, refusalOf, refusalWithin}
-use Rattle.reader.proofs.NumberLaws.{within-nine, within-none, within-read, within-ten, within-zero}
+use Rattle.reader.proofs.NumberLaws.{within-nine, within-none, within-ten, within-zero}
 use Rattle.limits.specs.declared.Limits.{Limits}
 use Rattle.limits.specs.Limits.{ReadUnder, Wider, limitsWrong, refusalUnder, usual}
 

@@ -1,8 +1,8 @@
 -- What Clean answers and leaves at each of its returns. Assumes nothing.
-use mathlib.Core.Path.{_≡_, refl, sym, ap, ap₂, _∙_}
+use mathlib.Core.Path.{_≡_, refl, sym, ap, _∙_}
 use mathlib.Core.Bool.{Bool, true, false, cond}
 use mathlib.Core.List.{List, _++_}
-use Prim.Native.Nat.{ℕ, suc}
+use Prim.Native.Nat.{ℕ}
 use native.Mathlib.Omega.{arith}
 use lib.ListN.{length, drop}
 use Rattle.reader.specs.Reader.{numberOf}
@@ -10,11 +10,11 @@ use Rattle.limits.specs.declared.Limits.{Limits}
 use Rattle.limits.specs.Limits.{ReadUnder, refusalUnder}
 use Rattle.reader.specs.declared.Reading.{Reading}
 use Rattle.clean.specs.Clean.{cleanText, cleanWrong}
-use Rattle.clean.specs.Written.{Written, lengthOf, storeOf}
+use Rattle.clean.specs.Written.{Written}
 use Rattle.clean.specs.declared.Length.{Length}
 use Rattle.clean.specs.declared.Length.the-variants.{Bytes, Over}
 use Rattle.outcomes.specs.declared.CleanAnswer.the-variants.{Done, Refused}
-use Rattle.outcomes.specs.Outcomes.{CleanIs, cleanAnswer, cleanRefusal, cleanStore, orElse}
+use Rattle.outcomes.specs.Outcomes.{CleanIs, cleanAnswer, cleanRefusal, cleanStore}
 use Rattle.outcomes.proofs.RefusalLaws.{else-first, else-next, refused-case}
 
 module _ (L : Limits) (s d : List ℕ) where

@@ -5,7 +5,7 @@ use mathlib.Core.List.{List}
 use mathlib.Core.Logic.{_⊎_, inl, inr}
 use Prim.Native.Nat.{ℕ, zero, suc, _≤_, _<_}
 use native.Mathlib.Omega.{arith}
-use borrow.Author.Tests.{eq-eqb, le-ltb, lt-ltb, ne-eqb}
+use borrow.Author.Tests.{eq-eqb, lt-ltb, ne-eqb}
 use Rattle.wordset.proofs.BelowLaws.{lt-or-le}
 use Rattle.limits.specs.declared.Limits.{Limits}
 use Rattle.limits.specs.Limits.{refusalUnder}
@@ -33,13 +33,6 @@ else-none (suc k) l e = let i : suc k ≡ 0 = sym (else-first (suc k) l (λ h. o
 pub refused-case : {A : Type 0} (f g : ℕ → A) → ((k : ℕ) → f (suc k) ≡ g (suc k)) → (k : ℕ) → (k ≡ 0 → ⊥) → f k ≡ g k
 refused-case f g h zero n = absurd (n refl)
 refused-case f g h (suc k) n = h k
-
-pub naming-none : (n r : ℕ) → namingRefusal n r ≡ 0 → r < n
-naming-none n r e = go (lt-or-le r n)
-  where
-    go : (r < n) ⊎ (n ≤ r) → r < n
-    go (inl h) = h
-    go (inr h) = let i : _≡_ {A = ℕ} 0 11 = sym e ∙ ap (λ b. cond b 0 11) (le-ltb r n h) in absurd (omega arith)
 
 pub store-none : (n l : ℕ) → storeRefusal n l ≡ 0 → n ≤ l
 store-none n l e = go (lt-or-le l n)

@@ -1,5 +1,5 @@
 -- How many words hold the types, by the width of the lean: enough, no more than that, and 64 at most up to 12 places. Assumes nothing.
-use mathlib.Core.Path.{_≡_, sym, ap, _∙_}
+use mathlib.Core.Path.{_≡_, ap, _∙_}
 use mathlib.Core.Logic.{_⊎_, inl, inr}
 use Prim.Native.Nat.{ℕ, _+_, _-_, _*_, _/_, _%_, _^_, _≤_, _<_, max}
 use native.Mathlib.Omega.{arith}
@@ -11,10 +11,6 @@ use Rattle.prepare.specs.Width.{wordsFor}
 module _ (width : ℕ) where
   whole : 6 ≤ width → 2 ^ width ≡ 2 ^ (width - 6) * 64
   whole h = ap (λ n. 2 ^ n) (let e : width ≡ (width - 6) + 6 = omega arith in e) ∙ pow-add 2 (width - 6) 6
-
-  pub words-some : 1 ≤ wordsFor width
-  unfolding wordsFor
-  words-some = omega arith
 
   pub words-enough : 2 ^ width ≤ wordsFor width * 64
   unfolding wordsFor

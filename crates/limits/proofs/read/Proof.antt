@@ -1,5 +1,5 @@
 -- `read` meets its contract: limits out of range are refused, and all others are those of `read_within`. Assumes nothing.
-use mathlib.Core.Path.{_≡_, sym, _∙_}
+use mathlib.Core.Path.{sym, _∙_}
 use borrow.Author.Needs.{needs}
 use Rattle.limits.proofs.LimitLaws.{read-right, read-wrong, right-limits}
 use Rattle.limits.proofs.read.Statement.{statement}
