@@ -9,7 +9,7 @@
 //!   describes has changed. The constants here are lengths that are always enough.
 //! - A sheet has at most 8 basic formulas, and 64 with all parts and expansions, or is refused. Each function has a second one, whose
 //!   name ends in `_within`, that takes [`Limits`] first: up to 12 and 128. `Limits` has the lengths that are always enough there.
-//! - Each call needs a stack with 1 MiB left. A thread of the standard library has 2 MiB unless it asked for less.
+//! - Each call needs a stack with 256 KiB left. A thread of the standard library has 2 MiB unless it asked for less.
 //!
 //! ```
 //! use lockgraph::{verdict, Verdict};

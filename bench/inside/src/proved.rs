@@ -30,6 +30,34 @@ extern "C" {
         store_len: usize,
         out: *mut u64,
     ) -> c_uchar;
+    fn lockgraph_verdict_within(
+        lean: usize,
+        closure: usize,
+        sheet: *const u8,
+        sheet_len: usize,
+        out: *mut u64,
+    ) -> c_uchar;
+    fn lockgraph_table_within(
+        lean: usize,
+        closure: usize,
+        sheet: *const u8,
+        sheet_len: usize,
+        naming: u64,
+        first: *mut u64,
+        first_len: usize,
+        second: *mut u64,
+        second_len: usize,
+        out: *mut u64,
+    ) -> c_uchar;
+    fn lockgraph_book_within(
+        lean: usize,
+        closure: usize,
+        sheet: *const u8,
+        sheet_len: usize,
+        store: *mut u64,
+        store_len: usize,
+        out: *mut u64,
+    ) -> c_uchar;
 }
 
 /// The refusal, or 1, naming and type; 2, 0, 0 where it is unsatisfiable.
@@ -94,6 +122,68 @@ pub fn clean(sheet: &[u8]) -> Result<Vec<u8>, u8> {
         )
     };
     answer(refusal, out).map(|[length]| store[..length as usize].to_vec())
+}
+
+/// A lean limit and a closure limit.
+pub type Limits = (usize, usize);
+
+/// The verdict under given limits.
+pub fn verdict_within((lean, closure): Limits, sheet: &[u8]) -> Result<[u64; 3], u8> {
+    let mut out = [0; 3];
+    // The sheet is one lent store, and `out` has the 3 words that the prototype says.
+    let refusal = unsafe {
+        lockgraph_verdict_within(lean, closure, sheet.as_ptr(), sheet.len(), out.as_mut_ptr())
+    };
+    answer(refusal, out)
+}
+
+/// The table under given limits: the standing types at the beginning of the store, and the counts.
+pub fn table_within(
+    (lean, closure): Limits,
+    sheet: &[u8],
+    naming: u64,
+    store: &mut [u64],
+) -> Result<[u64; 5], u8> {
+    let mut second = [0; 64];
+    let mut out = [0; 5];
+    // Two stores that overlap nothing, and `out` with the 5 words that the prototype says.
+    let refusal = unsafe {
+        lockgraph_table_within(
+            lean,
+            closure,
+            sheet.as_ptr(),
+            sheet.len(),
+            naming,
+            store.as_mut_ptr(),
+            store.len(),
+            second.as_mut_ptr(),
+            second.len(),
+            out.as_mut_ptr(),
+        )
+    };
+    answer(refusal, out)
+}
+
+/// The book under given limits, at the beginning of the store: how many namings there are, and how many words each has.
+pub fn book_within(
+    (lean, closure): Limits,
+    sheet: &[u8],
+    store: &mut [u64],
+) -> Result<[u64; 2], u8> {
+    let mut out = [0; 2];
+    // A store that overlaps nothing, and `out` with the 2 words that the prototype says.
+    let refusal = unsafe {
+        lockgraph_book_within(
+            lean,
+            closure,
+            sheet.as_ptr(),
+            sheet.len(),
+            store.as_mut_ptr(),
+            store.len(),
+            out.as_mut_ptr(),
+        )
+    };
+    answer(refusal, out)
 }
 
 fn answer<T>(refusal: u8, out: T) -> Result<T, u8> {

@@ -10,6 +10,7 @@ mod sheet;
 mod tableau;
 
 use closure::Member;
+use report::report;
 use sheet::Kind;
 use tableau::Tableau;
 
@@ -108,14 +109,30 @@ fn read_within(bytes: &[u8], limits: Limits) -> Result<Reading, Refusal> {
     })
 }
 
+/// Calls a function with as many words as the types over a sheet's lean take.
+macro_rules! with_words {
+    ($function:ident, $reading:expr $(, $argument:expr)*) => {
+        match $reading.lean.len() {
+            0..=6 => $function::<1>($reading $(, $argument)*),
+            7 => $function::<2>($reading $(, $argument)*),
+            8 => $function::<4>($reading $(, $argument)*),
+            9 => $function::<8>($reading $(, $argument)*),
+            10 => $function::<16>($reading $(, $argument)*),
+            11 => $function::<32>($reading $(, $argument)*),
+            _ => $function::<64>($reading $(, $argument)*),
+        }
+    };
+}
+
 /// The least naming under which a standing type has the goal, with the least such type.
 pub fn verdict(bytes: &[u8]) -> Result<Verdict, Refusal> {
-    let reading = read(bytes)?;
-    Ok(match reading.lean.len() {
-        0..=6 => judge::<1>(&reading),
-        7 => judge::<2>(&reading),
-        _ => judge::<4>(&reading),
-    })
+    verdict_within(bytes, Limits::default())
+}
+
+/// The same under given limits.
+pub fn verdict_within(bytes: &[u8], limits: Limits) -> Result<Verdict, Refusal> {
+    let reading = read_within(bytes, limits)?;
+    Ok(with_words!(judge, &reading))
 }
 
 fn judge<const W: usize>(reading: &Reading) -> Verdict {
@@ -131,26 +148,57 @@ fn judge<const W: usize>(reading: &Reading) -> Verdict {
 
 /// The standing types under one naming.
 pub fn table(bytes: &[u8], naming: u64) -> Result<Table, Refusal> {
-    let reading = read(bytes)?;
-    if naming >= reading.namings() {
-        return Err(Refusal::Naming);
-    }
-    Ok(match reading.lean.len() {
-        0..=6 => settled::<1>(&reading, naming),
-        7 => settled::<2>(&reading, naming),
-        _ => settled::<4>(&reading, naming),
+    let mut words = [0; 4];
+    let [start, left, rounds] = table_within(bytes, Limits::default(), naming, &mut words)?;
+    Ok(Table {
+        words,
+        start,
+        left,
+        rounds,
     })
 }
 
-fn settled<const W: usize>(reading: &Reading, naming: u64) -> Table {
+/// The same under given limits: the standing types at the beginning of a store that has the words for the lean limit, and the counts of a table.
+pub fn table_within(
+    bytes: &[u8],
+    limits: Limits,
+    naming: u64,
+    store: &mut [u64],
+) -> Result<[u32; 3], Refusal> {
+    let reading = read_within(bytes, limits)?;
+    if naming >= reading.namings() {
+        return Err(Refusal::Naming);
+    }
+    Ok(with_words!(settled, &reading, naming, store))
+}
+
+fn settled<const W: usize>(reading: &Reading, naming: u64, store: &mut [u64]) -> [u32; 3] {
     let settled = Tableau::<W>::new(reading).settle(naming);
-    let mut words = [0; 4];
-    words[..W].copy_from_slice(&settled.standing);
-    Table {
-        words,
-        start: settled.start,
-        left: family::size(&settled.standing),
-        rounds: settled.rounds,
+    store[..W].copy_from_slice(&settled.standing);
+    [
+        settled.start,
+        family::size(&settled.standing),
+        settled.rounds,
+    ]
+}
+
+/// How many words the book of a sheet has.
+pub fn book_words(bytes: &[u8], limits: Limits) -> Result<usize, Refusal> {
+    let reading = read_within(bytes, limits)?;
+    Ok(reading.namings() as usize * (1 << reading.lean.len().saturating_sub(6)))
+}
+
+/// The standing types under every naming, one after the other in a store that has room for them: how many namings there are.
+pub fn book_within(bytes: &[u8], limits: Limits, store: &mut [u64]) -> Result<u64, Refusal> {
+    let reading = read_within(bytes, limits)?;
+    with_words!(fill, &reading, store);
+    Ok(reading.namings())
+}
+
+fn fill<const W: usize>(reading: &Reading, store: &mut [u64]) {
+    let tableau = Tableau::<W>::new(reading);
+    for (naming, words) in (0..reading.namings()).zip(store.chunks_exact_mut(W)) {
+        words.copy_from_slice(&tableau.settle(naming).standing);
     }
 }
 
@@ -197,14 +245,6 @@ pub fn program(bytes: &[u8]) -> Vec<u8> {
 pub fn program_within(bytes: &[u8], limits: Limits) -> Vec<u8> {
     match read_within(bytes, limits) {
         Err(refusal) => format!("refused {}\n", refusal as u8).into_bytes(),
-        Ok(reading) => match reading.lean.len() {
-            0..=6 => report::report::<1>(&reading),
-            7 => report::report::<2>(&reading),
-            8 => report::report::<4>(&reading),
-            9 => report::report::<8>(&reading),
-            10 => report::report::<16>(&reading),
-            11 => report::report::<32>(&reading),
-            _ => report::report::<64>(&reading),
-        },
+        Ok(reading) => with_words!(report, &reading),
     }
 }
