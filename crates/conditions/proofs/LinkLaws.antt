@@ -2,7 +2,7 @@
 use mathlib.Core.Path.{_≡_, refl, sym, ap, ap₂, _∙_}
 use mathlib.Core.Bool.{Bool, true, false, not, _&&_, _||_, and-comm, true≢false}
 use mathlib.Core.List.{List}
-use mathlib.Core.Logic.{inl, inr, ⊎-elim}
+use mathlib.Core.Logic.{inr, ⊎-elim}
 use Prim.Native.Nat.{ℕ, _+_, _-_, _*_, _/_, _%_, _^_, _≤_, _<_}
 use native.Mathlib.Nat.{add-comm}
 use native.Mathlib.Omega.{arith}
@@ -19,10 +19,12 @@ use Rattle.wordset.proofs.BitLaws.{bit-low, bit-none, bit-past, bit-shr, digit-
 use Rattle.wordset.specs.Below.{allBelow, anyBelow}
 use Rattle.wordset.specs.Word.{bit}
 use Rattle.members.specs.Members.{forms}
+use Rattle.truth.specs.Blocks.{has}
 use Rattle.truth.specs.Tables.{Leans, Table, argAt, form, leanForms, rightAt, tagAt}
 use Rattle.truth.specs.Truths.{trueAt}
+use Rattle.truth.proofs.BlockLaws.{block-in}
 use Rattle.truth.proofs.MemberLaws.{all-forms}
-use Rattle.conditions.specs.Entries.{entry, inSome, linkedBy, partner, refusing, side}
+use Rattle.conditions.specs.Entries.{inSome, linkedBy, partner, refusing, side}
 use Rattle.conditions.specs.Conditions.{Below, Conditions, Lk, OfPlace, Own, Placed, clash, nothing}
 use Rattle.conditions.specs.Putting.{Sided, Summed, Turned}
 use Rattle.conditions.specs.declared.Condition.{Condition}
@@ -182,70 +184,64 @@ module _ {ms ln : List ℕ} {w : ℕ} {cw₀ cw₁ : List ℕ} (few : length ln 
       ⊎-elim (λ l. (let q = fore-low m c l b in omega arith)) (λ l. (let q = back-low m c l h b in let x = q .0 in let y = q .1 in omega arith)) (lt-or-le m 8)
 
   module _ {cw₂ : List ℕ} (z : Summed w cw₁ cw₂ 16) where
-    side-same : (m : ℕ) → side w cw₂ m ≡ side w cw₁ m
-    side-same m = z .others (w * 64 + m) (inr (omega arith))
+    entry-first : (c t : ℕ) → c < 64 → c % 32 < 24 → t < w * 64 → has w cw₂ c t ≡ has w cw₀ c t
+    entry-first c t l h k = z .entries c t h k ∙ entry-kept w cw₀ cw₁ c t (let b = block-in w c 64 l in r .others (c * w + t / 64) (omega arith))
 
-    entry-same : (c t : ℕ) → c % 32 < 24 → entry cw₂ c t ≡ entry cw₁ c t
-    entry-same c t l = entry-kept cw₁ cw₂ c t (z .others (t / 64 * 64 + c) (inl (omega arith)))
-
-    entry-first : (c t : ℕ) → c < 64 → c % 32 < 24 → t < w * 64 → entry cw₂ c t ≡ entry cw₀ c t
-    entry-first c t l h k = entry-same c t h ∙ entry-kept cw₀ cw₁ c t (r .others (t / 64 * 64 + c) (omega arith))
-
-    refuse : (m : ℕ) → m < 16 → (u : ℕ) → u < w * 64 → entry cw₂ (refusing m) u ≡ inSome cw₂ (side w cw₂ m) u
+    refuse : (m : ℕ) → m < 16 → (u : ℕ) → u < w * 64 → has w cw₂ (refusing m) u ≡ inSome w cw₂ (side w cw₂ m) u
     refuse m h u l =
         z .is m h u l
-        ∙ sym (some-kept cw₁ cw₂ (side w cw₁ m) u (λ c k b. entry-same c u (sides-low m c h b)))
-        ∙ ap (λ (a : ℕ). inSome cw₂ a u) (sym (side-same m))
+        ∙ sym (some-kept w cw₁ cw₂ (side w cw₁ m) u (λ c k b. z .entries c u (sides-low m c h b) l))
+        ∙ ap (λ (a : ℕ). inSome w cw₂ a u) (sym (z .sides m))
 
     module _ (tb : Table ms) (le : Leans ms ln) (pl : Placed ms ln) where
       -- condition c of field m stands against a link from t to u
       abbrev against : ℕ → ℕ → ℕ → ℕ → Bool
-      against m t u c = bit (side w cw₀ m) c && (entry cw₀ (c + 32) t && entry cw₀ c u)
+      against m t u c = bit (side w cw₀ m) c && (has w cw₀ (c + 32) t && has w cw₀ c u)
 
       against-link : (m t u n : ℕ) → m < 8 → t < w * 64 → u < w * 64 → length ln * 2 ≤ n → not (anyBelow n (against m t u)) ≡ link (forms ms) (leanForms ms ln) m t u
       against-link m t u n h a b g =
-          link-is tb le pl m t u h (against m t u) (λ e k. s .low m e h (and-both (bit (side w cw₀ m) e) (entry cw₀ (e + 32) t && entry cw₀ e u) k .0))
+          link-is tb le pl m t u h (against m t u) (λ e k. s .low m e h (and-both (bit (side w cw₀ m) e) (has w cw₀ (e + 32) t && has w cw₀ e u) k .0))
           (λ e l. (let d = s .each e l in (d .0, d .1, d .2 m h t u a b))) n g
 
-      fore : (m t u c : ℕ) → m < 8 → t < w * 64 → u < w * 64 → (bit (side w cw₂ m) c && (entry cw₂ (partner c) t && entry cw₂ c u)) ≡ against m t u c
-      fore m t u c h a b = ap (λ (x : ℕ). bit x c && (entry cw₂ (partner c) t && entry cw₂ c u)) (side-same m ∙ side-fore m h) ∙ go (bit (side w cw₀ m) c) refl
+      fore : (m t u c : ℕ) → m < 8 → t < w * 64 → u < w * 64 → (bit (side w cw₂ m) c && (has w cw₂ (partner c) t && has w cw₂ c u)) ≡ against m t u c
+      fore m t u c h a b = ap (λ (x : ℕ). bit x c && (has w cw₂ (partner c) t && has w cw₂ c u)) (z .sides m ∙ side-fore m h) ∙ go (bit (side w cw₀ m) c) refl
         where
-          go : (x : Bool) → bit (side w cw₀ m) c ≡ x → (x && (entry cw₂ (partner c) t && entry cw₂ c u)) ≡ (x && (entry cw₀ (c + 32) t && entry cw₀ c u))
+          go : (x : Bool) → bit (side w cw₀ m) c ≡ x → (x && (has w cw₂ (partner c) t && has w cw₂ c u)) ≡ (x && (has w cw₀ (c + 32) t && has w cw₀ c u))
           go true e =
               let l = s .low m c h e in
               let p : partner c ≡ c + 32 = omega arith in
-              ap₂ _&&_ (ap (λ (k : ℕ). entry cw₂ k t) p ∙ entry-first (c + 32) t (omega arith) (omega arith) a) (entry-first c u (omega arith) (omega arith) b)
+              ap₂ _&&_ (ap (λ (k : ℕ). has w cw₂ k t) p ∙ entry-first (c + 32) t (omega arith) (omega arith) a) (entry-first c u (omega arith) (omega arith) b)
           go false e = refl
 
-      links-fore : (m : ℕ) → m < 8 → (t u : ℕ) → t < w * 64 → u < w * 64 → linkedBy cw₂ (side w cw₂ m) t u ≡ Lk ms ln m t u
+      links-fore : (m : ℕ) → m < 8 → (t u : ℕ) → t < w * 64 → u < w * 64 → linkedBy w cw₂ (side w cw₂ m) t u ≡ Lk ms ln m t u
       unfolding linkedBy
       links-fore m h t u a b =
-          ap not (any-ext (λ c. bit (side w cw₂ m) c && (entry cw₂ (partner c) t && entry cw₂ c u)) (against m t u) 64 (λ c l. fore m t u c h a b))
+          ap not (any-ext (λ c. bit (side w cw₂ m) c && (has w cw₂ (partner c) t && has w cw₂ c u)) (against m t u) 64 (λ c l. fore m t u c h a b))
           ∙ against-link m t u 64 h a b (omega arith) ∙ link-field ms ln m t u h
 
       back : (m t u j : ℕ) → 8 ≤ m → m < 16 → t < w * 64 → u < w * 64 → j < 32
-          → (bit (side w cw₂ m) (32 + j) && (entry cw₂ (partner (32 + j)) t && entry cw₂ (32 + j) u)) ≡ against (m - 8) u t j
+          → (bit (side w cw₂ m) (32 + j) && (has w cw₂ (partner (32 + j)) t && has w cw₂ (32 + j) u)) ≡ against (m - 8) u t j
       back m t u j g h a b l =
-          ap (λ x. x && (entry cw₂ (partner (32 + j)) t && entry cw₂ (32 + j) u)) (ap (λ (x : ℕ). bit x (32 + j)) (side-same m ∙ side-back m g h) ∙ up-high (side w cw₀ (m - 8)) j l)
+          ap (λ x. x && (has w cw₂ (partner (32 + j)) t && has w cw₂ (32 + j) u)) (ap (λ (x : ℕ). bit x (32 + j)) (z .sides m ∙ side-back m g h) ∙ up-high (side w cw₀ (m - 8)) j l)
           ∙ go (bit (side w cw₀ (m - 8)) j) refl
         where
-          go : (x : Bool) → bit (side w cw₀ (m - 8)) j ≡ x → (x && (entry cw₂ (partner (32 + j)) t && entry cw₂ (32 + j) u)) ≡ (x && (entry cw₀ (j + 32) u && entry cw₀ j t))
+          go : (x : Bool) → bit (side w cw₀ (m - 8)) j ≡ x → (x && (has w cw₂ (partner (32 + j)) t && has w cw₂ (32 + j) u)) ≡ (x && (has w cw₀ (j + 32) u && has w cw₀ j t))
           go true e =
               let q = s .low (m - 8) j (omega arith) e in
               let p : partner (32 + j) ≡ j = omega arith in
-              ap₂ _&&_ (ap (λ (k : ℕ). entry cw₂ k t) p ∙ entry-first j t (omega arith) (omega arith) a)
-              (ap (λ (k : ℕ). entry cw₂ k u) (add-comm 32 j) ∙ entry-first (j + 32) u (omega arith) (omega arith) b)
-              ∙ and-comm (entry cw₀ j t) (entry cw₀ (j + 32) u)
+              ap₂ _&&_ (ap (λ (k : ℕ). has w cw₂ k t) p ∙ entry-first j t (omega arith) (omega arith) a)
+              (ap (λ (k : ℕ). has w cw₂ k u) (add-comm 32 j) ∙ entry-first (j + 32) u (omega arith) (omega arith) b)
+              ∙ and-comm (has w cw₀ j t) (has w cw₀ (j + 32) u)
           go false e = refl
 
-      back-none : (m t u c : ℕ) → 8 ≤ m → m < 16 → c < 32 → (bit (side w cw₂ m) c && (entry cw₂ (partner c) t && entry cw₂ c u)) ≡ false
+      back-none : (m t u c : ℕ) → 8 ≤ m → m < 16 → c < 32 → (bit (side w cw₂ m) c && (has w cw₂ (partner c) t && has w cw₂ c u)) ≡ false
       back-none m t u c g h l =
-          ap (λ x. x && (entry cw₂ (partner c) t && entry cw₂ c u)) (ap (λ (x : ℕ). bit x c) (side-same m ∙ side-back m g h) ∙ up-low (side w cw₀ (m - 8)) c l)
+          ap (λ x. x && (has w cw₂ (partner c) t && has w cw₂ c u)) (ap (λ (x : ℕ). bit x c) (z .sides m ∙ side-back m g h) ∙ up-low (side w cw₀ (m - 8)) c l)
 
-      links-back : (m : ℕ) → 8 ≤ m → m < 16 → (t u : ℕ) → t < w * 64 → u < w * 64 → linkedBy cw₂ (side w cw₂ m) t u ≡ Lk ms ln m t u
+      links-back : (m : ℕ) → 8 ≤ m → m < 16 → (t u : ℕ) → t < w * 64 → u < w * 64 → linkedBy w cw₂ (side w cw₂ m) t u ≡ Lk ms ln m t u
       unfolding linkedBy
       links-back m g h t u a b =
-          let K : ℕ → Bool = λ c. bit (side w cw₂ m) c && (entry cw₂ (partner c) t && entry cw₂ c u) in
+          let K : ℕ → Bool = λ c. bit (side w cw₂ m) c && (has w cw₂ (partner c) t && has w cw₂ c u) in
           ap not (any-add K 32 32 ∙ ap₂ _||_ (any-none K 32 (λ c l. back-none m t u c g h l)) (any-ext (λ j. K (32 + j)) (against (m - 8) u t) 32 (λ j l. back m t u j g h a b l)))
           ∙ against-link (m - 8) u t 32 (omega arith) b a (omega arith) ∙ link-back ms ln m t u g
 

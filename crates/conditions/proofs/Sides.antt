@@ -1,17 +1,18 @@
--- Loops over modes: the sides behind the rows are cleared, then turned, and the entries of each side summed. Assumes nothing.
+-- Loops over modes: the sides behind the entries are cleared, then turned, and the entries of each side summed. Assumes nothing.
 use mathlib.Core.Path.{_≡_, refl, sym, ap, _∙_}
 use mathlib.Core.Bool.{true}
 use mathlib.Core.List.{List}
-use mathlib.Core.Logic.{inl, inr, ⊎-elim}
-use Prim.Native.Nat.{ℕ, _+_, _*_, _/_, _%_, _^_, _≤_, _<_}
+use mathlib.Core.Logic.{⊎-elim}
+use Prim.Native.Nat.{ℕ, _+_, _*_, _%_, _^_, _≤_, _<_}
 use native.Mathlib.Omega.{arith}
 use lib.ListN.{length, getD, set, length-set}
 use lib.Seq.{getD-set-same, getD-set-other}
 use Rattle.wordset.proofs.BelowLaws.{top}
 use Rattle.wordset.specs.Word.{bit}
-use Rattle.conditions.specs.Entries.{entry, inSome, refusing, side}
+use Rattle.truth.specs.Blocks.{has}
+use Rattle.conditions.specs.Entries.{inSome, refusing, side}
 use Rattle.conditions.specs.Putting.{Put, Summed, Turned}
-use Rattle.conditions.proofs.EntryLaws.{entry-kept, some-kept}
+use Rattle.conditions.proofs.EntryLaws.{some-kept}
 
 -- ---- the sides below m are 0
 
@@ -69,29 +70,24 @@ pub record Summing (w : ℕ) (cw₀ cw : List ℕ) (m : ℕ) : Type 0 where
 
 module _ {w : ℕ} {cw₀ : List ℕ} where
   pub sum-start : Summing w cw₀ cw₀ 0
-  sum-start = record { long = refl; sums = record { is = λ k h. absurd (omega arith); others = λ q f. refl } }
+  sum-start = record { long = refl; sums = record { is = λ k h. absurd (omega arith); entries = λ c t h l. refl; sides = λ k. refl } }
 
   module _ {cw : List ℕ} {m : ℕ} (s : Summing w cw₀ cw m) where
     -- the side of a mode is as it was, and so are the types in its entries
-    sum-same : ((n c : ℕ) → n < 16 → bit (side w cw₀ n) c ≡ true → c % 32 < 24) → (k : ℕ) → k < 16 → (t : ℕ) → inSome cw (side w cw k) t ≡ inSome cw₀ (side w cw₀ k) t
-    sum-same f k h t =
-        ap (λ (a : ℕ). inSome cw a t) (s .sums .others (w * 64 + k) (inr (omega arith)))
-        ∙ some-kept cw₀ cw (side w cw₀ k) t (λ c l b. entry-kept cw₀ cw c t (s .sums .others _ (inl (let g = f k c h b in omega (arith, g)))))
+    sum-same : ((n c : ℕ) → n < 16 → bit (side w cw₀ n) c ≡ true → c % 32 < 24) → (k : ℕ) → k < 16 → (t : ℕ) → t < w * 64 → inSome w cw (side w cw k) t ≡ inSome w cw₀ (side w cw₀ k) t
+    sum-same f k h t l = ap (λ (a : ℕ). inSome w cw a t) (s .sums .sides k) ∙ some-kept w cw₀ cw (side w cw₀ k) t (λ c g b. s .sums .entries c t (f k c h b) l)
 
-    pub sum-on : {cw′ : List ℕ} → m < 16 → ((n c : ℕ) → n < 16 → bit (side w cw₀ n) c ≡ true → c % 32 < 24) → length cw′ ≡ length cw → Put (inSome cw (side w cw m)) w (refusing m) cw cw′ → Summing w cw₀ cw′ (m + 1)
+    pub sum-on : {cw′ : List ℕ} → m < 16 → ((n c : ℕ) → n < 16 → bit (side w cw₀ n) c ≡ true → c % 32 < 24) → length cw′ ≡ length cw → Put (inSome w cw (side w cw m)) w (refusing m) cw cw′ → Summing w cw₀ cw′ (m + 1)
     sum-on {cw′} h f e p = record {
       long = e ∙ s .long;
       sums = record {
         is = λ k l t b. ⊎-elim
-            (λ q. ap (λ (n : ℕ). entry cw′ (refusing n) t) q ∙ p .is t b ∙ sum-same f m h t ∙ ap (λ (n : ℕ). inSome cw₀ (side w cw₀ n) t) (sym q))
-            (λ q. entry-kept cw cw′ (refusing k) t (p .others (t / 64 * 64 + refusing k) (inl (λ g. apart k q (t / 64) g))) ∙ s .sums .is k q t b) (top k m (omega arith));
-        others = λ q g. p .others q (⊎-elim (λ u. inl (λ z. omega (arith, u, z, h))) (λ u. inr u) g) ∙ s .sums .others q g;
+            (λ q. ap (λ (n : ℕ). has w cw′ (refusing n) t) q ∙ p .is t b ∙ sum-same f m h t b ∙ ap (λ (n : ℕ). inSome w cw₀ (side w cw₀ n) t) (sym q))
+            (λ q. p .entries (refusing k) t (λ g. omega (arith, q, g, h)) b ∙ s .sums .is k q t b) (top k m (omega arith));
+        entries = λ c t g l. p .entries c t (λ q. omega (arith, q, g, h)) l ∙ s .sums .entries c t g l;
+        sides = λ k. p .sides k ∙ s .sums .sides k;
       };
     }
-      where
-        -- two modes have two entries
-        apart : (k : ℕ) → k < m → (i : ℕ) → (i * 64 + refusing k) % 64 ≡ refusing m → ⊥
-        apart k q i g = omega (arith, q, g, h)
 
     pub sum-end : 16 ≤ m → Summed w cw₀ cw 16
-    sum-end h = record { is = λ k l. s .sums .is k (omega arith); others = s .sums .others }
+    sum-end h = record { is = λ k l. s .sums .is k (omega arith); entries = s .sums .entries; sides = s .sums .sides }

@@ -2,8 +2,8 @@
 use mathlib.Core.Path.{_≡_, refl, sym, ap, ap₂, _∙_}
 use mathlib.Core.Bool.{Bool, true, false, _&&_, _||_, and-false, or-false, true≢false}
 use mathlib.Core.List.{List}
-use mathlib.Core.Logic.{inl, inr, ⊎-elim}
-use Prim.Native.Nat.{ℕ, _+_, _*_, _/_, _%_, _^_, _≤_, _<_}
+use mathlib.Core.Logic.{⊎-elim}
+use Prim.Native.Nat.{ℕ, _+_, _*_, _%_, _^_, _≤_, _<_}
 use native.Mathlib.Omega.{arith}
 use lib.Bits.{bitOr}
 use lib.Dec.{eqb}
@@ -17,25 +17,20 @@ use Rattle.wordset.specs.Word.{bit}
 use Rattle.truth.specs.Blocks.{has}
 use Rattle.truth.specs.Truths.{Truths, trueAt}
 use Rattle.truth.proofs.TruthLaws.{truth-bit}
-use Rattle.conditions.specs.Entries.{entry, side}
+use Rattle.conditions.specs.Entries.{side}
 use Rattle.conditions.specs.Conditions.{OfPlace, clash, reverse, selects}
 use Rattle.conditions.specs.Putting.{Put, Sided}
 use Rattle.conditions.specs.declared.Condition.{Condition}
 use Rattle.conditions.specs.declared.Rule.{Rule}
-use Rattle.conditions.proofs.EntryLaws.{entry-kept}
+use Rattle.conditions.proofs.EntryLaws.{entry-before}
 
 -- no field has a condition yet
 pub side-start : {ms ln : List ℕ} {w : ℕ} {cw : List ℕ} → ((m : ℕ) → m < 8 → getD cw (w * 64 + m) 0 ≡ 0) → Sided ms ln w cw 0
 side-start f = record { low = λ m e l b. absurd (true≢false (sym b ∙ ap (λ (x : ℕ). bit x e) (f m l) ∙ bit-none e)); each = λ e l. absurd (omega arith) }
 
--- the words of the rows other than those of entries c and c + 32 are as they were
-record Kept (w c : ℕ) (cw cw′ : List ℕ) : Type 0 where
-  same : (q : ℕ) → q < w * 64 → (q % 64 ≡ c → ⊥) → (q % 64 ≡ c + 32 → ⊥) → getD cw′ q 0 ≡ getD cw q 0
-
-entry-other : {w c : ℕ} {cw cw′ : List ℕ} → Kept w c cw cw′ → (e t : ℕ) → e < 64 → t < w * 64 → (e ≡ c → ⊥) → (e ≡ c + 32 → ⊥) → entry cw′ e t ≡ entry cw e t
-entry-other {w} {c} {cw} {cw′} k e t l h f g =
-    let r : (t / 64 * 64 + e) % 64 ≡ e = omega arith in
-    entry-kept cw cw′ e t (k .same (t / 64 * 64 + e) (omega arith) (λ q. f (sym r ∙ q)) (λ q. g (sym r ∙ q)))
+-- the entries other than c and c + 32 are as they were
+abbrev Kept : ℕ → ℕ → List ℕ → List ℕ → Type 0
+Kept w c cw cw′ = (e t : ℕ) → e < 64 → t < w * 64 → (e ≡ c → ⊥) → (e ≡ c + 32 → ⊥) → has w cw′ e t ≡ has w cw e t
 
 -- the clash of a condition by parts
 abbrev demands : List ℕ → List ℕ → Condition → ℕ → Bool
@@ -51,13 +46,13 @@ clash-parts ms ln d m t u = refl
 -- what is known of condition e
 abbrev Each : List ℕ → List ℕ → ℕ → List ℕ → ℕ → Type 0
 Each ms ln w cw e =
-    (d : Condition) × OfPlace ms ln e d × ((m : ℕ) → m < 8 → (t u : ℕ) → t < w * 64 → u < w * 64 → (bit (side w cw m) e && (entry cw (e + 32) t && entry cw e u)) ≡ clash ms ln d m t u)
+    (d : Condition) × OfPlace ms ln e d × ((m : ℕ) → m < 8 → (t u : ℕ) → t < w * 64 → u < w * 64 → (bit (side w cw m) e && (has w cw (e + 32) t && has w cw e u)) ≡ clash ms ln d m t u)
 
 module _ {ms ln : List ℕ} {w c : ℕ} (h : c < 24) {d : Condition} (o : OfPlace ms ln c d) where
   module _ {cw cw′ : List ℕ} (k : Kept w c cw cw′) where
     side-on : ((m e : ℕ) → m < 8 → e < c → bit (side w cw′ m) e ≡ bit (side w cw m) e)
         → ((m e : ℕ) → m < 8 → bit (side w cw′ m) e ≡ true → e < c + 1)
-        → ((m : ℕ) → m < 8 → (t u : ℕ) → t < w * 64 → u < w * 64 → (bit (side w cw′ m) c && (entry cw′ (c + 32) t && entry cw′ c u)) ≡ clash ms ln d m t u)
+        → ((m : ℕ) → m < 8 → (t u : ℕ) → t < w * 64 → u < w * 64 → (bit (side w cw′ m) c && (has w cw′ (c + 32) t && has w cw′ c u)) ≡ clash ms ln d m t u)
         → Sided ms ln w cw c → Sided ms ln w cw′ (c + 1)
     side-on f g n s = record { low = g; each = λ e l. ⊎-elim (λ q. new e q) (λ q. old e q) (top e c (omega arith)) }
       where
@@ -69,7 +64,7 @@ module _ {ms ln : List ℕ} {w c : ℕ} (h : c < 24) {d : Condition} (o : OfPlac
             let z = s .each e q in (
               z .0,
               z .1,
-              λ m l t u a b. ap₂ _&&_ (f m e l q) (ap₂ _&&_ (entry-other k (e + 32) t (omega arith) a (λ x. omega (arith, x, q, h)) (λ x. omega (arith, x, q))) (entry-other k e u (omega arith) b (λ x. omega (arith, x, q)) (λ x. omega (arith, x, q))))
+              λ m l t u a b. ap₂ _&&_ (f m e l q) (ap₂ _&&_ (k (e + 32) t (omega arith) a (λ x. omega (arith, x, q, h)) (λ x. omega (arith, x, q))) (k e u (omega arith) b (λ x. omega (arith, x, q)) (λ x. omega (arith, x, q))))
                   ∙ z .2 m l t u a b,
             )
 
@@ -78,7 +73,7 @@ module _ {ms ln : List ℕ} {w c : ℕ} (h : c < 24) {d : Condition} (o : OfPlac
         → Sided ms ln w cw c → Sided ms ln w cw′ (c + 1)
     side-stays f n s =
         side-on (λ m e l q. ap (λ (x : ℕ). bit x e) (f m l)) (λ m e l b. (let z = s .low m e l (ap (λ (x : ℕ). bit x e) (sym (f m l)) ∙ b) in omega arith))
-        (λ m l t u a b. ap (λ x. x && (entry cw′ (c + 32) t && entry cw′ c u)) (ap (λ (x : ℕ). bit x c) (f m l) ∙ off m l) ∙ sym (n m l t u a b)) s
+        (λ m l t u a b. ap (λ x. x && (has w cw′ (c + 32) t && has w cw′ c u)) (ap (λ (x : ℕ). bit x c) (f m l) ∙ off m l) ∙ sym (n m l t u a b)) s
       where
         off : (m : ℕ) → m < 8 → bit (side w cw m) c ≡ false
         off m l = false-of (bit (side w cw m) c) (λ b. (let z = s .low m c l b in omega arith))
@@ -86,7 +81,7 @@ module _ {ms ln : List ℕ} {w c : ℕ} (h : c < 24) {d : Condition} (o : OfPlac
   -- a condition of no field
   pub side-none : {cw : List ℕ} → d .field ≡ 8 → Sided ms ln w cw c → Sided ms ln w cw (c + 1)
   side-none e =
-      side-stays (record { same = λ q a b g. refl }) (λ m l. refl)
+      side-stays (λ e t l a f g. refl) (λ m l. refl)
       (λ m l t u a b. clash-parts ms ln d m t u ∙ ap (λ x. x && (demands ms ln d t && refuses ms ln d u)) (ne-eqb (d .field) m (λ q. omega (arith, e, q, l))))
 
   module _ {tw : List ℕ} (tr : Truths ms ln w tw) (field : d .field ≡ 8 → ⊥) {r : Rule} (er : r ≡ reverse (d .rule)) {cw₀ cw₁ : List ℕ}
@@ -98,33 +93,33 @@ module _ {ms ln : List ℕ} {w c : ℕ} (h : c < 24) {d : Condition} (o : OfPlac
     blocks : (r : Rule) (t : ℕ) → t < w * 64 → selects r (has w tw (d .whole) t) (has w tw (d .part) t) ≡ selects r (trueAt ms ln (d .whole) t) (trueAt ms ln (d .part) t)
     blocks r t l = let q = o .inside .1 low in ap₂ (selects r) (truth-bit tr (d .whole) (q .0) t l) (truth-bit tr (d .part) (q .1) t l)
 
-    refused : (u : ℕ) → u < w * 64 → entry cw₁ c u ≡ refuses ms ln d u
+    refused : (u : ℕ) → u < w * 64 → has w cw₁ c u ≡ refuses ms ln d u
     refused u l = p .is u l ∙ blocks r u l ∙ ap (λ x. selects x (trueAt ms ln (d .whole) u) (trueAt ms ln (d .part) u)) er
 
     kept : Kept w c cw₀ cw₁
-    kept = record { same = λ q l f g. p .others q (inl f) }
+    kept e t l a f g = p .entries e t f a
 
     -- no type refuses it
-    pub side-refused : ((t : ℕ) → t < w * 64 → entry cw₁ c t ≡ false) → Sided ms ln w cw₀ c → Sided ms ln w cw₁ (c + 1)
+    pub side-refused : ((t : ℕ) → t < w * 64 → has w cw₁ c t ≡ false) → Sided ms ln w cw₀ c → Sided ms ln w cw₁ (c + 1)
     side-refused n =
-        side-stays kept (λ m l. p .others (w * 64 + m) (inr (omega arith)))
+        side-stays kept (λ m l. p .sides m)
         (λ m l t u a b. clash-parts ms ln d m t u
         ∙ ap (λ x. eqb (d .field) m && (demands ms ln d t && x)) (sym (refused u b) ∙ n u b)
         ∙ ap (λ x. eqb (d .field) m && x) (and-false (demands ms ln d t))
         ∙ and-false (eqb (d .field) m))
 
     module _ {cw₂ : List ℕ} (p₂ : Put (λ t. selects (d .rule) (has w tw (d .whole) t) (has w tw (d .part) t)) w (c + 32) cw₁ cw₂) where
-      demanded : (t : ℕ) → t < w * 64 → entry cw₂ (c + 32) t ≡ demands ms ln d t
+      demanded : (t : ℕ) → t < w * 64 → has w cw₂ (c + 32) t ≡ demands ms ln d t
       demanded t l = p₂ .is t l ∙ blocks (d .rule) t l
 
       kept₂ : Kept w c cw₀ cw₂
-      kept₂ = record { same = λ q l f g. p₂ .others q (inl g) ∙ kept .same q l f g }
+      kept₂ e t l a f g = p₂ .entries e t g a ∙ kept e t l a f g
 
       sides₂ : (m : ℕ) → side w cw₂ m ≡ side w cw₀ m
-      sides₂ m = p₂ .others (w * 64 + m) (inr (omega arith)) ∙ p .others (w * 64 + m) (inr (omega arith))
+      sides₂ m = p₂ .sides m ∙ p .sides m
 
       -- no type demands it
-      pub side-demanded : ((t : ℕ) → t < w * 64 → entry cw₂ (c + 32) t ≡ false) → Sided ms ln w cw₀ c → Sided ms ln w cw₂ (c + 1)
+      pub side-demanded : ((t : ℕ) → t < w * 64 → has w cw₂ (c + 32) t ≡ false) → Sided ms ln w cw₀ c → Sided ms ln w cw₂ (c + 1)
       side-demanded n =
           side-stays kept₂ (λ m l. sides₂ m)
           (λ m l t u a b. clash-parts ms ln d m t u
@@ -145,8 +140,11 @@ module _ {ms ln : List ℕ} {w c : ℕ} (h : c < 24) {d : Condition} (o : OfPlac
           set-other : (q : ℕ) → (q ≡ w * 64 + d .field → ⊥) → getD cw₃ q 0 ≡ getD cw₂ q 0
           set-other q f = getD-set-other cw₂ (w * 64 + d .field) q x 0 f
 
+          entries : (e t : ℕ) → e < 64 → t < w * 64 → has w cw₃ e t ≡ has w cw₂ e t
+          entries e t l a = entry-before w cw₂ (w * 64 + d .field) x e t (omega arith) l a
+
           kept₃ : Kept w c cw₀ cw₃
-          kept₃ = record { same = λ q l f g. set-other q (λ e. omega (arith, e, l)) ∙ kept₂ .same q l f g }
+          kept₃ e t l a f g = entries e t l a ∙ kept₂ e t l a f g
 
           bits : (e : ℕ) → bit x e ≡ (bit (side w cw₀ (d .field)) e || eqb e c)
           bits e =
@@ -176,13 +174,10 @@ module _ {ms ln : List ℕ} {w c : ℕ} (h : c < 24) {d : Condition} (o : OfPlac
               ⊎-elim (λ q. own m c q ∙ ap₂ _||_ (off m l) (eq-eqb c c refl) ∙ sym (eq-eqb (d .field) m (sym q)))
               (λ n. else m c n ∙ off m l ∙ sym (ne-eqb (d .field) m (λ q. n (sym q)))) (same-or m (d .field))
 
-          entries : (e t : ℕ) → e < 64 → t < w * 64 → entry cw₃ e t ≡ entry cw₂ e t
-          entries e t l a = entry-kept cw₂ cw₃ e t (set-other (t / 64 * 64 + e) (λ q. omega (arith, q, l, a)))
+          below : (u : ℕ) → u < w * 64 → has w cw₂ c u ≡ has w cw₁ c u
+          below u b = p₂ .entries c u (λ q. omega (arith, q)) b
 
-          below : (u : ℕ) → u < w * 64 → entry cw₂ c u ≡ entry cw₁ c u
-          below u b = entry-kept cw₁ cw₂ c u (p₂ .others (u / 64 * 64 + c) (inl (λ q. omega (arith, q, h))))
-
-          joined : (m : ℕ) → m < 8 → (t u : ℕ) → t < w * 64 → u < w * 64 → (bit (side w cw₃ m) c && (entry cw₃ (c + 32) t && entry cw₃ c u)) ≡ clash ms ln d m t u
+          joined : (m : ℕ) → m < 8 → (t u : ℕ) → t < w * 64 → u < w * 64 → (bit (side w cw₃ m) c && (has w cw₃ (c + 32) t && has w cw₃ c u)) ≡ clash ms ln d m t u
           joined m l t u a b =
               ap₂ _&&_ (side-bit m l) (ap₂ _&&_ (entries (c + 32) t (omega arith) a ∙ demanded t a) (entries c u (omega arith) b ∙ below u b ∙ refused u b))
               ∙ sym (clash-parts ms ln d m t u)

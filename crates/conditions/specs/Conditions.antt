@@ -8,9 +8,10 @@ use lib.ListN.{length, getD}
 use Rattle.ctl.specs.Links.{linkBy, linkRule}
 use Rattle.ctl.specs.Modes.{hasMode, single}
 use Rattle.members.specs.Members.{forms}
+use Rattle.truth.specs.Blocks.{has}
 use Rattle.truth.specs.Tables.{argAt, form, leanForms, leftAt, tagAt}
 use Rattle.truth.specs.Truths.{trueAt}
-use Rattle.conditions.specs.Entries.{entry, inSome, linkedBy, refusing, side}
+use Rattle.conditions.specs.Entries.{inSome, linkedBy, refusing, side}
 use Rattle.conditions.specs.declared.Condition.{Condition}
 use Rattle.conditions.specs.declared.Rule.{Rule}
 use Rattle.conditions.specs.declared.Rule.the-variants.{Forward, Backward, BothWays}
@@ -22,8 +23,8 @@ Lk ms ln = linkBy (forms ms) (leanForms ms ln)
 -- the condition words of a table under a lean
 pub record Conditions (ms ln : List ℕ) (w : ℕ) (cw : List ℕ) : Type 0 where
   pub room : w * 64 + 16 ≤ length cw
-  pub links : (m : ℕ) → m < 16 → (t u : ℕ) → t < w * 64 → u < w * 64 → linkedBy cw (side w cw m) t u ≡ Lk ms ln m t u
-  pub refuse : (m : ℕ) → m < 16 → (u : ℕ) → u < w * 64 → entry cw (refusing m) u ≡ inSome cw (side w cw m) u
+  pub links : (m : ℕ) → m < 16 → (t u : ℕ) → t < w * 64 → u < w * 64 → linkedBy w cw (side w cw m) t u ≡ Lk ms ln m t u
+  pub refuse : (m : ℕ) → m < 16 → (u : ℕ) → u < w * 64 → has w cw (refusing m) u ≡ inSome w cw (side w cw m) u
 
 -- each EX and AX over one mode has a place in the lean, and an AU along a field both ways has AX over that field, of itself, there
 pub record Placed (ms ln : List ℕ) : Type 0 where

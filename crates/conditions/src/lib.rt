@@ -16,7 +16,7 @@ ghost use Rattle.wordset.specs.Word.{bit};
 ghost use Rattle.truth.specs.Blocks.{has};
 ghost use Rattle.truth.specs.Tables.{Leans, Table};
 ghost use Rattle.truth.specs.Truths.{Truths};
-ghost use Rattle.conditions.specs.Entries.{entry, inSome, side};
+ghost use Rattle.conditions.specs.Entries.{inSome, side};
 ghost use Rattle.conditions.specs.Conditions.{Below, Conditions, OfPlace, Own, Placed, nothing, reverse, selects};
 ghost use Rattle.conditions.specs.Putting.{Put, Sided, Summed, Turned};
 
@@ -151,17 +151,17 @@ fn reversed(rule: Rule) -> Rule
     }
 }
 
-// Entry c of the rows becomes the types that demand by a rule: whether there are any.
+// Entry c becomes the types that demand by a rule: whether there are any.
 fn put_entry(tw: &[u64], w: usize, rule: Rule, i: usize, p: usize, cw: &mut [u64], c: usize) -> bool
     requires { ⌜ (i * w + w ≤ length (now tw)) × (p * w + w ≤ length (now tw)) × (w * 64 + 16 ≤ length (now cw)) × (w ≤ 1024) × (c < 64) ⌝ }
     ensures { λ _. ⌜ Put (λ t. selects rule (has w (now (tw .entry)) i t) (has w (now (tw .entry)) p t)) w c (now (cw .entry)) (now (cw .exit)) ⌝ }
-    ensures { λ b. ⌜ (b ≡ false → (t : ℕ) → t < w * 64 → entry (now (cw .exit)) c t ≡ false) ⌝ }
+    ensures { λ b. ⌜ (b ≡ false → (t : ℕ) → t < w * 64 → has w (now (cw .exit)) c t ≡ false) ⌝ }
 {
     let mut any: u64 = 0;
     let mut k = 0;
     while k < w {
         let x = selected(tw, w, rule, i, p, k);
-        cw[k * 64 + c] = x;
+        cw[c * w + k] = x;
         any = any | x;
         k += 1;
     }
@@ -232,29 +232,29 @@ fn turn_sides(cw: &mut [u64], w: usize)
 }
 
 // Answers k of the types that are in one of the entries r.
-pub fn some_word(cw: &[u64], r: u64, k: usize) -> u64
-    requires { ⌜ (k * 64 + 64 ≤ length (now cw)) × (k < 1024) ⌝ }
-    ensures { λ x. ⌜ Answers (inSome (now (cw .entry)) r) k x ⌝ }
+pub fn some_word(cw: &[u64], w: usize, r: u64, k: usize) -> u64
+    requires { ⌜ (w * 64 ≤ length (now cw)) × (k < w) ⌝ }
+    ensures { λ x. ⌜ Answers (inSome w (now (cw .entry)) r) k x ⌝ }
 {
     let mut acc: u64 = 0;
     let mut rest = r;
     while rest != 0 {
         let c = u64::trailing_zeros(rest) as usize;
-        acc = acc | cw[k * 64 + c];
+        acc = acc | cw[c * w + k];
         rest = rest & (rest - 1);
     }
     acc
 }
 
-// Entry e of the rows becomes the types that are in one of the entries a.
+// Entry e becomes the types that are in one of the entries a.
 fn put_sum(cw: &mut [u64], w: usize, a: u64, e: usize)
     requires { ⌜ (w * 64 + 16 ≤ length (now cw)) × (w ≤ 1024) × (e < 64) ⌝ }
-    ensures { λ _. ⌜ Put (inSome (now (cw .entry)) a) w e (now (cw .entry)) (now (cw .exit)) ⌝ }
+    ensures { λ _. ⌜ Put (inSome w (now (cw .entry)) a) w e (now (cw .entry)) (now (cw .exit)) ⌝ }
 {
     let mut k = 0;
     while k < w {
-        let x = some_word(cw, a, k);
-        cw[k * 64 + e] = x;
+        let x = some_word(cw, w, a, k);
+        cw[e * w + k] = x;
         k += 1;
     }
 }

@@ -12,18 +12,19 @@ use Rattle.wordset.specs.Below.{anyBelow}
 use Rattle.wordset.specs.Word.{bit}
 use Rattle.wordset.specs.Words.{member, minus, packed}
 use Rattle.image.proofs.Draining.{some}
-use Rattle.conditions.specs.Entries.{entry, inSome, linkedBy, linkedTo, partner}
+use Rattle.truth.specs.Blocks.{has}
+use Rattle.conditions.specs.Entries.{inSome, linkedBy, linkedTo, partner}
 
 -- every type is linked to one of Z that refuses nothing
-pub free-linked : (w : ℕ) (cw : List ℕ) (a : ℕ) (Z R : ℕ → Bool) → ((u : ℕ) → u < w * 64 → R u ≡ inSome cw a u) → anyBelow (w * 64) (λ u. Z u && not (R u)) ≡ true → (t : ℕ) → linkedTo w cw a Z t ≡ true
+pub free-linked : (w : ℕ) (cw : List ℕ) (a : ℕ) (Z R : ℕ → Bool) → ((u : ℕ) → u < w * 64 → R u ≡ inSome w cw a u) → anyBelow (w * 64) (λ u. Z u && not (R u)) ≡ true → (t : ℕ) → linkedTo w cw a Z t ≡ true
 unfolding linkedTo linkedBy inSome
 free-linked w cw a Z R f e t =
     let s = some (w * 64) (λ u. Z u && not (R u)) e in
     let b = and-both (Z (s .0)) _ (s .2) in
-    let n : anyBelow 64 (λ c. bit a c && entry cw c (s .0)) ≡ false = sym (f (s .0) (s .1)) ∙ not-true _ (b .1) in
-    any-intro (λ u. Z u && linkedBy cw a t u) (w * 64) (s .0) (s .1)
-    (and-make (Z (s .0)) _ (b .0) (ap not (any-none (λ c. bit a c && (entry cw (partner c) t && entry cw c (s .0))) 64
-    (λ c l. none (bit a c) (entry cw (partner c) t) (entry cw c (s .0)) (any-false (λ c. bit a c && entry cw c (s .0)) 64 n c l)))))
+    let n : anyBelow 64 (λ c. bit a c && has w cw c (s .0)) ≡ false = sym (f (s .0) (s .1)) ∙ not-true _ (b .1) in
+    any-intro (λ u. Z u && linkedBy w cw a t u) (w * 64) (s .0) (s .1)
+    (and-make (Z (s .0)) _ (b .0) (ap not (any-none (λ c. bit a c && (has w cw (partner c) t && has w cw c (s .0))) 64
+    (λ c l. none (bit a c) (has w cw (partner c) t) (has w cw c (s .0)) (any-false (λ c. bit a c && has w cw c (s .0)) 64 n c l)))))
   where
     none : (a d e : Bool) → (a && e) ≡ false → (a && (d && e)) ≡ false
     none true true e k = k

@@ -1,4 +1,5 @@
 pub mod WordLaws
+pub mod Fours
 pub mod Lessening
 pub mod Draining
 pub mod Confining

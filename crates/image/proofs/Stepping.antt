@@ -1,6 +1,6 @@
 -- The loop over the modes of a set: what is linked by one of them is dropped. For any word count. Assumes nothing.
 use mathlib.Core.Path.{_≡_, refl, sym, ap, _∙_}
-use mathlib.Core.Bool.{and-true, Bool, true, false, not, _&&_, _||_}
+use mathlib.Core.Bool.{and-false, and-true, Bool, true, false, not, _&&_, _||_}
 use mathlib.Core.List.{List}
 use Prim.Native.Nat.{ℕ, _*_, _^_, _≤_, _<_}
 use native.Mathlib.Omega.{arith}
@@ -12,17 +12,35 @@ use Rattle.wordset.specs.Words.{member, minus, packed}
 use Rattle.truth.proofs.Joining.{modes-lowest, modes-none}
 use Rattle.truth.proofs.ListWords.{held, minus-member}
 use Rattle.truth.proofs.Sifting.{less, less-lt, lowest}
-use Rattle.conditions.specs.Entries.{linkedTo}
+use Rattle.conditions.specs.Entries.{inSome, linkedTo}
+use Rattle.image.proofs.Confining.{free-linked}
 use Rattle.image.proofs.Draining.{linked-ext}
 
--- `rest` was filled with those of src that are not in u, and dst lost what is linked to one of them
-pub drained-less : (w : ℕ) (cw : List ℕ) (a : ℕ) (src u rest₀ rest dst dst′ : List ℕ) → w ≤ length src → w ≤ length rest₀ → rest ≡ packed w (λ j. member src j && not (member u j)) rest₀
-    → ((t : ℕ) → t < w * 64 → member dst′ t ≡ (member dst t && not (linkedTo w cw a (member rest) t)))
-    → (t : ℕ) → t < w * 64 → member dst′ t ≡ (member dst t && not (linkedTo w cw a (member (minus w src u)) t))
-drained-less w cw a src u rest₀ rest dst dst′ h k e f t l =
-    f t l
-    ∙ ap (λ x. member dst t && not x) (linked-ext w cw a (member rest) (member (minus w src u)) t
-    (λ j i. held (λ j. member src j && not (member u j)) rest₀ rest w k e j i ∙ sym (minus-member src u (minus w src u) w h refl j i)))
+-- `rest` was filled with those of src that are not in u
+module _ (w : ℕ) (cw : List ℕ) (a : ℕ) (src u rest₀ rest : List ℕ) (h : w ≤ length src) (k : w ≤ length rest₀) (e : rest ≡ packed w (λ j. member src j && not (member u j)) rest₀) where
+  linked-less : (t : ℕ) → linkedTo w cw a (member rest) t ≡ linkedTo w cw a (member (minus w src u)) t
+  linked-less t =
+      linked-ext w cw a (member rest) (member (minus w src u)) t
+      (λ j i. held (λ j. member src j && not (member u j)) rest₀ rest w k e j i ∙ sym (minus-member src u (minus w src u) w h refl j i))
+
+  -- dst lost what is linked to one of them
+  pub drained-less : (dst dst′ : List ℕ) → ((t : ℕ) → t < w * 64 → member dst′ t ≡ (member dst t && not (linkedTo w cw a (member rest) t)))
+      → (t : ℕ) → t < w * 64 → member dst′ t ≡ (member dst t && not (linkedTo w cw a (member (minus w src u)) t))
+  drained-less dst dst′ f t l = f t l ∙ ap (λ x. member dst t && not x) (linked-less t)
+
+  -- one of them refuses nothing, and dst lost all
+  pub freed-less : (R : ℕ → Bool) → ((t : ℕ) → t < w * 64 → R t ≡ inSome w cw a t) → anyBelow (w * 64) (λ t. member rest t && not (R t)) ≡ true → (dst dst′ : List ℕ)
+      → ((t : ℕ) → t < w * 64 → member dst′ t ≡ false) → (t : ℕ) → t < w * 64 → member dst′ t ≡ (member dst t && not (linkedTo w cw a (member (minus w src u)) t))
+  freed-less R f g dst dst′ n t l =
+      n t l ∙ sym (and-false (member dst t)) ∙ ap (λ x. member dst t && not x) (sym (free-linked w cw a (member rest) R f g t) ∙ linked-less t)
+
+-- a set less itself
+pub nothing-less : (w : ℕ) (s d d′ : List ℕ) → w ≤ length d → d′ ≡ packed w (λ j. member s j && not (member s j)) d → (t : ℕ) → t < w * 64 → member d′ t ≡ false
+nothing-less w s d d′ h e t l = held (λ j. member s j && not (member s j)) d d′ w h e t l ∙ none (member s t)
+  where
+    none : (b : Bool) → (b && not b) ≡ false
+    none true = refl
+    none false = refl
 
 -- d lacks those of d₀ that pass F for a mode of a that is not in `left`
 pub record Moded (F : ℕ → ℕ → Bool) (w a : ℕ) (d₀ rest₀ d rest : List ℕ) (left : ℕ) : Type 0 where

@@ -1,7 +1,11 @@
 // Types that are linked to a set, by the conditions of links. Whoever is linked to a type is linked to every type that refuses less, so a set is covered by few of the
 // sets of conditions that its types refuse. Assumes nothing.
 pub mod blocks;
+mod narrowing;
 
+use crate::narrowing::keep_lacking;
+use crate::narrowing::keep_some;
+use crate::narrowing::lack_word;
 use conditions::some_word;
 ghost use mathlib.Core.Path.{_≡_};
 ghost use mathlib.Core.Bool.{Bool, true, false, not, _&&_, _||_};
@@ -12,8 +16,10 @@ ghost use Rattle.wordset.specs.Answers.{Answers};
 ghost use Rattle.wordset.specs.Below.{anyBelow};
 ghost use Rattle.wordset.specs.Word.{bit};
 ghost use Rattle.wordset.specs.Words.{member, minus, packed};
-ghost use Rattle.conditions.specs.Entries.{entry, inSome, linkedTo, refusing, side};
-ghost use Rattle.image.specs.Covering.{Refused, RefusedBy, notAll, passing};
+ghost use Rattle.truth.specs.Blocks.{has};
+ghost use Rattle.conditions.specs.Entries.{inSome, linkedTo, refusing, side};
+ghost use Rattle.image.specs.Covering.{Refused, RefusedBy};
+ghost use Rattle.image.specs.Narrowing.{notAll};
 
 // Word x with the numbers of word y, if on is true.
 fn join_if(x: u64, y: u64, on: bool) -> u64
@@ -33,45 +39,34 @@ fn partners(r: u64) -> u64
 }
 
 // Of the entries a, those that have type 64k + b.
-fn refusal_set(cw: &[u64], a: u64, k: usize, b: usize) -> u64
-    requires { ⌜ (k * 64 + 64 ≤ length (now cw)) × (k < 1024) × (b < 64) ⌝ }
-    ensures { λ r. ⌜ RefusedBy (now (cw .entry)) a (k * 64 + b) r ⌝ }
+fn refusal_set(cw: &[u64], w: usize, a: u64, k: usize, b: usize) -> u64
+    requires { ⌜ (w * 64 ≤ length (now cw)) × (k < w) × (b < 64) ⌝ }
+    ensures { λ r. ⌜ RefusedBy w (now (cw .entry)) a (k * 64 + b) r ⌝ }
 {
     let mut acc: u64 = 0;
     let mut rest = a;
     while rest != 0 {
         let c = u64::trailing_zeros(rest) as usize;
         let next = rest & (rest - 1);
-        acc = join_if(acc, rest & !next, (cw[k * 64 + c] >> b) & 1 == 1);
+        acc = join_if(acc, rest & !next, (cw[c * w + k] >> b) & 1 == 1);
         rest = next;
     }
     acc
 }
 
-// Answers k of the types that are not in all of the entries r.
-fn lack_word(cw: &[u64], r: u64, k: usize) -> u64
-    requires { ⌜ (k * 64 + 64 ≤ length (now cw)) × (k < 1024) ⌝ }
-    ensures { λ x. ⌜ Answers (notAll (now (cw .entry)) r) k x ⌝ }
-{
-    let mut acc: u64 = 0;
-    let mut rest = r;
-    while rest != 0 {
-        let c = u64::trailing_zeros(rest) as usize;
-        acc = acc | !cw[k * 64 + c];
-        rest = rest & (rest - 1);
-    }
-    acc
-}
-
 // Of the types that word x at k has, those that refuse in some of the entries r only, of all entries a.
-fn fewer_word(cw: &[u64], a: u64, r: u64, k: usize, x: u64) -> u64
-    requires { ⌜ (k * 64 + 64 ≤ length (now cw)) × (k < 1024) ⌝ }
-    ensures { λ y. ⌜ ((P : ℕ → Bool) → Answers P k x → Answers (λ u. P u && (notAll (now (cw .entry)) r u && not (anyBelow 64 (λ c. (bit a c && not (bit r c)) && entry (now (cw .entry)) c u)))) k y) ⌝ }
+fn fewer_word(cw: &[u64], w: usize, a: u64, r: u64, k: usize, x: u64) -> u64
+    requires { ⌜ (w * 64 ≤ length (now cw)) × (k < w) ⌝ }
+    ensures { λ y. ⌜ ((P : ℕ → Bool) → Answers P k x → Answers (λ u. P u && (notAll w (now (cw .entry)) r u && not (anyBelow 64 (λ c. (bit a c && not (bit r c)) && has w (now (cw .entry)) c u)))) k y) ⌝ }
 {
     if x == 0 {
         return 0;
     }
-    x & (lack_word(cw, r, k) & !some_word(cw, a & !r, k))
+    let y = x & lack_word(cw, w, r, k);
+    if y == 0 {
+        return 0;
+    }
+    y & !some_word(cw, w, a & !r, k)
 }
 
 // What a type of rest refuses, where r is that too: as little of r as one does that refuses no more. Words before `from` are passed over.
@@ -89,45 +84,14 @@ fn smaller(rest: &[u64], cw: &[u64], a: u64, w: usize, r: u64, from: usize) -> u
         if s & (s - 1) == 0 {
             return s;
         }
-        let x = fewer_word(cw, a, s, k, rest[k]);
+        let x = fewer_word(cw, w, a, s, k, rest[k]);
         if x == 0 {
             k += 1;
         } else {
-            s = refusal_set(cw, a, k, u64::trailing_zeros(x) as usize);
+            s = refusal_set(cw, w, a, k, u64::trailing_zeros(x) as usize);
         }
     }
     s
-}
-
-// Answers k of the types that are in one of the entries r, or, where `lack` is true, that are not in all of them.
-fn pass_word(cw: &[u64], r: u64, k: usize, lack: bool) -> u64
-    requires { ⌜ (k * 64 + 64 ≤ length (now cw)) × (k < 1024) ⌝ }
-    ensures { λ x. ⌜ Answers (passing (now (cw .entry)) r lack) k x ⌝ }
-{
-    if lack {
-        return lack_word(cw, r, k);
-    }
-    some_word(cw, r, k)
-}
-
-// Those of dst stay that are in one of the entries r, or, where `lack` is true, that are not in all of them: whether there are any.
-fn narrow(dst: &mut [u64], cw: &[u64], r: u64, w: usize, lack: bool) -> bool
-    requires { ⌜ (w * 64 ≤ length (now cw)) × (w ≤ 1024) × (w ≤ length (now dst)) ⌝ }
-    ensures { λ _. ⌜ ((t : ℕ) → t < w * 64 → member (now (dst .exit)) t ≡ (member (now (dst .entry)) t && passing (now (cw .entry)) r lack t)) ⌝ }
-    ensures { λ b. ⌜ b ≡ anyBelow (w * 64) (member (now (dst .exit))) ⌝ }
-{
-    let mut any: u64 = 0;
-    let mut k = 0;
-    while k < w {
-        let x = dst[k];
-        if x != 0 {
-            let y = x & pass_word(cw, r, k, lack);
-            dst[k] = y;
-            any = any | y;
-        }
-        k += 1;
-    }
-    any != 0
 }
 
 // Those of dst stay that are linked to no type of rest, whose first w words are overwritten; a type of rest refuses in the entries a. False only if none stays. Each
@@ -142,33 +106,32 @@ fn drain(dst: &mut [u64], rest: &mut [u64], cw: &[u64], a: u64, w: usize) -> boo
     if q == w * 64 {
         return true;
     }
-    let mut r = refusal_set(cw, a, q / 64, q % 64);
+    let mut r = refusal_set(cw, w, a, q / 64, q % 64);
     loop {
-        if !narrow(dst, cw, partners(r), w, false) {
+        if !keep_some(dst, cw, partners(r), w) {
             return false;
         }
-        if !narrow(rest, cw, r, w, true) {
+        if !keep_lacking(rest, cw, r, w) {
             return true;
         }
         let p = wordset::first(rest, w);
         let k = p / 64;
-        r = smaller(rest, cw, a, w, refusal_set(cw, a, k, p % 64), k);
+        r = smaller(rest, cw, a, w, refusal_set(cw, w, a, k, p % 64), k);
     }
 }
 
 // Whether one of rest is not in entry e.
 fn exceeds(rest: &[u64], cw: &[u64], w: usize, e: usize) -> bool
-    requires { ⌜ (w * 64 ≤ length (now cw)) × (w ≤ 1024) × (w ≤ length (now rest)) × (e < 64) ⌝ }
-    ensures { λ b. ⌜ b ≡ anyBelow (w * 64) (λ t. member (now (rest .entry)) t && not (entry (now (cw .entry)) e t)) ⌝ }
+    requires { ⌜ (w * 64 ≤ length (now cw)) × (w ≤ length (now rest)) × (e < 64) ⌝ }
+    ensures { λ b. ⌜ b ≡ anyBelow (w * 64) (λ t. member (now (rest .entry)) t && not (has w (now (cw .entry)) e t)) ⌝ }
 {
+    let mut any: u64 = 0;
     let mut k = 0;
     while k < w {
-        if rest[k] & !cw[k * 64 + e] != 0 {
-            return true;
-        }
+        any = any | (rest[k] & !cw[e * w + k]);
         k += 1;
     }
-    false
+    any != 0
 }
 
 // Of v, those leave dst that are not linked along mode m to a type of rest. The first w words of v and of rest are overwritten. Where a type of rest refuses nothing,
@@ -182,7 +145,7 @@ pub fn confine_linked(
     m: usize,
 )
     requires { ⌜ (w * 64 + 16 ≤ length (now cw)) × (w ≤ 1024) × (m < 16) ⌝ }
-    requires { ⌜ ((t : ℕ) → t < w * 64 → entry (now cw) (refusing m) t ≡ inSome (now cw) (side w (now cw) m) t) ⌝ }
+    requires { ⌜ ((t : ℕ) → t < w * 64 → has w (now cw) (refusing m) t ≡ inSome w (now cw) (side w (now cw) m) t) ⌝ }
     requires { ⌜ (w ≤ length (now dst)) × (w ≤ length (now v)) × (w ≤ length (now rest)) ⌝ }
     ensures { λ _. ⌜ now (dst .exit) ≡ packed w (λ t. member (now (dst .entry)) t && not (member (now (v .entry)) t && not (linkedTo w (now (cw .entry)) (side w (now (cw .entry)) m) (member (now (rest .entry))) t))) (now (dst .entry)) ⌝ }
 {
@@ -194,7 +157,8 @@ pub fn confine_linked(
     }
 }
 
-// Those of v stay that are linked by none of the modes a to a type of src that is not in u. The first w words of rest are overwritten.
+// Those of v stay that are linked by none of the modes a to a type of src that is not in u. The first w words of rest are overwritten. Where such a type refuses nothing along
+// one of them, none stays.
 pub fn drop_linked(
     v: &mut [u64],
     rest: &mut [u64],
@@ -205,6 +169,7 @@ pub fn drop_linked(
     a: u64,
 )
     requires { ⌜ (w * 64 + 16 ≤ length (now cw)) × (w ≤ 1024) × (a < 65536) ⌝ }
+    requires { ⌜ ((m t : ℕ) → m < 16 → t < w * 64 → has w (now cw) (refusing m) t ≡ inSome w (now cw) (side w (now cw) m) t) ⌝ }
     requires { ⌜ (w ≤ length (now v)) × (w ≤ length (now rest)) × (w ≤ length (now src)) × (w ≤ length (now u)) ⌝ }
     ensures { λ _. ⌜ ((t : ℕ) → t < w * 64 → member (now (v .exit)) t ≡ (member (now (v .entry)) t && not (anyBelow 16 (λ m. hasMode a m && linkedTo w (now (cw .entry)) (side w (now (cw .entry)) m) (member (minus w (now (src .entry)) (now (u .entry)))) t)))) ⌝ }
 {
@@ -212,6 +177,10 @@ pub fn drop_linked(
     while left != 0 {
         let m = u64::trailing_zeros(left) as usize;
         wordset::less(rest, src, u, w);
+        if exceeds(rest, cw, w, 24 + m % 8 + m / 8 * 32) {
+            wordset::less(v, src, src, w);
+            return;
+        }
         if !drain(v, rest, cw, cw[w * 64 + m], w) {
             return;
         }

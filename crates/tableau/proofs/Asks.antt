@@ -82,7 +82,7 @@ module _ {ms ln : List ℕ} {w : ℕ} {tw cw ns : List ℕ} (r : Ready ms ln w t
       → linkedTo w cw (side w cw m) (λ c. member us c && has w tw p c) t ≡ Next ms ln (listOf w us) a (form ms p) t
   unfolding linkedTo E.next
   next-is us t m p a h k l e =
-      any-ext (λ j. (member us j && has w tw p j) && linkedBy cw (side w cw m) t j) (λ j. member us j && (trueAt ms ln p j && Linked ms ln a t j)) (w * 64)
+      any-ext (λ j. (member us j && has w tw p j) && linkedBy w cw (side w cw m) t j) (λ j. member us j && (trueAt ms ln p j && Linked ms ln a t j)) (w * 64)
       (λ j i. ap₂ (λ x y. (member us j && x) && y) (truth-bit (r .truths) p l j i) (r .links .links m k t j h i ∙ sym (linked-one ms ln a m k e t j))
       ∙ and-assoc (member us j) (trueAt ms ln p j) (Linked ms ln a t j))
       ∙ any-listed w us (λ j. trueAt ms ln p j && Linked ms ln a t j)
@@ -97,7 +97,7 @@ module _ {ms ln : List ℕ} {w : ℕ} {tw cw ns : List ℕ} (r : Ready ms ln w t
       both-ways _ _
       (λ s. (let x = some-below 16 (StepsBy us a t) s in
       let o = and-0 (hasMode a (x .0)) _ (x .2) in
-      let y = some-below (w * 64) (λ j. member us j && linkedBy cw (side w cw (x .0)) t j) (and-1 (hasMode a (x .0)) _ (x .2)) in
+      let y = some-below (w * 64) (λ j. member us j && linkedBy w cw (side w cw (x .0)) t j) (and-1 (hasMode a (x .0)) _ (x .2)) in
       any-in (λ u. L.anyOf (λ m. Lk ms ln m t u) (modes a)) (list-in w us (y .1) (and-0 (member us (y .0)) _ (y .2)))
       (any-in (λ m. Lk ms ln m t (y .0)) (modes-has a (x .0) (x .1) o)
       (T-cast (r .links .links (x .0) (x .1) t (y .0) h (y .1)) (and-1 (member us (y .0)) _ (y .2))))))
@@ -106,7 +106,7 @@ module _ {ms ln : List ℕ} {w : ℕ} {tw cw ns : List ℕ} (r : Ready ms ln w t
       let i = modes-in a (x .1) in
       let k = list-out w us (y .1) in
       some-in 16 (StepsBy us a t) (x .0) (mode-lt (i .0)) (and-in (hasMode a (x .0)) _ (i .1)
-      (some-in (w * 64) (λ j. member us j && linkedBy cw (side w cw (x .0)) t j) (y .0) (k .0)
+      (some-in (w * 64) (λ j. member us j && linkedBy w cw (side w cw (x .0)) t j) (y .0) (k .0)
       (and-in (member us (y .0)) _ (k .1) (T-cast⁻ (r .links .links (x .0) (mode-lt (i .0)) t (y .0) h (k .0)) (x .2)))))))
 
   -- ---- an EX that is to follow
@@ -183,7 +183,7 @@ module _ {ms ln : List ℕ} {w : ℕ} {tw cw ns : List ℕ} (r : Ready ms ln w t
         ap₂ (λ (x y : ℕ). nextBy x y (leftW (fieldNeed (length ms) f)) t) (field-whole (length ms) f h n) (field-mode (length ms) f h n)
         ∙ ap (λ (x : ℕ). nextBy (length ms + f) f x t) (field-left (length ms) f h n)
         ∙ ap₂ (λ x y. not x || y) (r .fields .each f h t l)
-        (any-ext (λ c. (member us c && has w tw (length ms + 8) c) && linkedBy cw (side w cw f) t c) (λ c. member us c && Lk ms ln f t c) (w * 64)
+        (any-ext (λ c. (member us c && has w tw (length ms + 8) c) && linkedBy w cw (side w cw f) t c) (λ c. member us c && Lk ms ln f t c) (w * 64)
         (λ c k. ap₂ (λ x y. (member us c && x) && y) (r .fields .all c k) (r .links .links f (omega arith) t c l k) ∙ ap (λ x. x && Lk ms ln f t c) (and-true (member us c))))
 
     U : List ℕ

@@ -1,10 +1,11 @@
--- `put_entry` meets its contract: the first k rows have their word, and `any` all of these. Assumes nothing.
-use Prim.Native.Nat.{_-_}
+-- `put_entry` meets its contract: the first k words are written, and `any` all of these. Assumes nothing.
+use Prim.Native.Nat.{_+_, _-_, _*_, _<_}
 use native.Mathlib.Omega.{arith}
+use lib.ListN.{length}
 use borrow.Author.Needs.{needs}
 use Rattle.truth.specs.Blocks.{has}
 use Rattle.conditions.specs.Conditions.{selects}
-use Rattle.conditions.proofs.EntryLaws.{Gathered, gather-none, gather-on, gather-start, rows-end}
+use Rattle.conditions.proofs.EntryLaws.{Gathered, entry-at, gather-none, gather-on, gather-start, put-end}
 use Rattle.conditions.proofs.put_entry.Statement.{statement}
 use Rattle.conditions.proofs.put_entry.Tie as tie
 
@@ -13,6 +14,10 @@ Inv-loop tw w rule i p cw₀ c any₀ k₀ cw any k = Gathered (λ t. selects ru
 
 abbrev μ-loop : tie.MeasureT-loop
 μ-loop tw w rule i p cw₀ c any₀ k₀ cw any k = w - k
+
+-- the place of a word
+at : (c : tie.After-selected Inv-loop μ-loop) → let b5 = c .before .before .before .before .before in b5 .args .c * b5 .args .w + c .before .before .loop .k < length (c .before .before .loop .cw)
+at c = let p = c .before .before .before .before .before .pre in entry-at (c .before .before .loop .inv .words) (p .2) (p .4) (c .before .loop-test .taken)
 
 loop-again : tie.Need-loop-again Inv-loop μ-loop
 loop-again c =
@@ -25,7 +30,7 @@ returns c =
     let s = c .before .loop .inv in
     let h = c .before .before .before .before .pre .4 in
     let g = c .loop-test .left in
-    (rows-end (s .rows) (omega arith) h, gather-none s (omega arith) h)
+    (put-end (s .words) (omega arith) h, gather-none s (omega arith) h)
 
 pub put-entry-spec : {M : Type 1} → statement M
 put-entry-spec =
@@ -35,12 +40,12 @@ put-entry-spec =
     μ-loop
     (λ c. gather-start)
     (λ c κs. search needs)
-    (λ c. search needs)
-    (λ c. search needs)
-    (λ c. search needs)
-    (λ c. search needs)
+    (λ c. (let h = at c in omega arith))
+    (λ c. (let h = at c in omega arith))
+    (λ c. (let h = at c in omega arith))
+    at
     (λ c. search needs)
     (λ c. search needs)
     loop-again
-    (λ c. c .before .loop .inv .rows .long)
+    (λ c. c .before .loop .inv .words .long)
     returns)

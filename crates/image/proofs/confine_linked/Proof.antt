@@ -3,7 +3,8 @@ use mathlib.Core.Path.{sym, ap, _∙_}
 use mathlib.Core.Bool.{not, _&&_, and-false}
 use borrow.Author.Needs.{needs}
 use Rattle.wordset.specs.Words.{member}
-use Rattle.conditions.specs.Entries.{entry, linkedTo, refusing, side}
+use Rattle.truth.specs.Blocks.{has}
+use Rattle.conditions.specs.Entries.{linkedTo, refusing, side}
 use Rattle.image.proofs.Confining.{free-linked, none-leave, these-leave}
 use Rattle.image.proofs.confine_linked.Statement.{statement}
 use Rattle.image.proofs.confine_linked.Tie as tie
@@ -15,7 +16,7 @@ returns c =
     let b7 = b6 .before in
     let g = b7 .args in
     none-leave _ _ (λ t. member (g .v .now) t && not (linkedTo (g .w) (g .cw .now) (side (g .w) (g .cw .now) (g .m)) (member (g .rest .now)) t)) (λ k h. b6 .slice-known .given k .fits)
-    (λ t l. ap (λ z. member (g .v .now) t && not z) (free-linked _ _ _ (member (g .rest .now)) (entry (g .cw .now) (refusing (g .m))) (b7 .pre .1 .0) (sym (b1 .exceeds .ensures) ∙ c .if1 .taken) t) ∙ and-false (member (g .v .now) t))
+    (λ t l. ap (λ z. member (g .v .now) t && not z) (free-linked _ _ _ (member (g .rest .now)) (has (g .w) (g .cw .now) (refusing (g .m))) (b7 .pre .1 .0) (sym (b1 .exceeds .ensures) ∙ c .if1 .taken) t) ∙ and-false (member (g .v .now) t))
 
 returns-2 : tie.Need-returns-2
 returns-2 c = these-leave _ _ _ _ _ (c .before .before .before .before .before .before .before .before .before .before .drain .ensures .0) (c .before .before .subtract .ensures .0)

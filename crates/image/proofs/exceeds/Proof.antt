@@ -1,32 +1,31 @@
--- `exceeds` meets its contract: of the first k words, all numbers are in entry e. Assumes nothing.
-use mathlib.Core.Path.{sym}
+-- `exceeds` meets its contract: after k turns `any` tells whether one of the first k words' numbers is in rest and not in entry e. Assumes nothing.
 use mathlib.Core.Bool.{not, _&&_}
-use Prim.Native.Nat.{_-_}
+use Prim.Native.Nat.{_+_, _-_, _*_, _<_}
+use native.Mathlib.Omega.{arith}
 use borrow.Author.Needs.{needs}
+use lib.ListN.{length}
 use Rattle.wordset.proofs.AnswersLaws.{minus-answers, word-answers}
-use Rattle.wordset.proofs.Scanning.{NoneSoFar, any-found, none-end, none-on, none-start}
+use Rattle.wordset.proofs.Packing.{Noting, note-end, note-on, note-start}
 use Rattle.wordset.specs.Words.{member}
-use Rattle.conditions.specs.Entries.{entry}
-use Rattle.conditions.proofs.EntryLaws.{entry-word}
+use Rattle.truth.specs.Blocks.{has}
+use Rattle.truth.proofs.BlockLaws.{block-word, slot}
 use Rattle.image.proofs.exceeds.Statement.{statement}
 use Rattle.image.proofs.exceeds.Tie as tie
 
 abbrev Inv-loop : tie.InvT-loop
-Inv-loop rest cw w e k₀ k = NoneSoFar (λ t. member rest t && not (entry cw e t)) w k
+Inv-loop rest cw w e any₀ k₀ any k = Noting (λ t. member rest t && not (has w cw e t)) w any k
 
 abbrev μ-loop : tie.MeasureT-loop
-μ-loop rest cw w e k₀ k = w - k
+μ-loop rest cw w e any₀ k₀ any k = w - k
 
-returns : tie.Need-returns Inv-loop μ-loop
-returns c =
-    let b2 = c .before .before in
-    sym (any-found (minus-answers (word-answers _ _ (b2 .shared-slice-known .given _ .fits)) (entry-word _ _ _ (c .before .shared-slice-known2 .given _ .fits))) _ (b2 .before .loop-test .taken) (c .if1 .taken))
+-- the place of a word of the entry
+at : (c : tie.After-shared-slice-known Inv-loop μ-loop) → let b3 = c .before .before .before in b3 .args .e * b3 .args .w + c .before .before .loop .k < length (b3 .args .cw .now)
+at c = let p = c .before .before .before .pre in slot _ _ 64 _ _ (p .2) (let h = p .0 in omega arith) (c .before .loop-test .taken)
 
 loop-again : tie.Need-loop-again Inv-loop μ-loop
 loop-again c =
     let b2 = c .before .before in
-    let b4 = b2 .before .before in
-    none-on (minus-answers (word-answers _ _ (b2 .shared-slice-known .given _ .fits)) (entry-word _ _ _ (c .before .shared-slice-known2 .given _ .fits))) (b4 .loop .inv) (b2 .before .loop-test .taken) (c .if1 .left)
+    note-on (b2 .before .loop .inv) (b2 .loop-test .taken) (minus-answers (word-answers _ _ (c .before .shared-slice-known .given _ .fits)) (block-word _ _ _ _ (c .shared-slice-known2 .given _ .fits)))
 
 pub exceeds-spec : {M : Type 1} → statement M
 exceeds-spec =
@@ -34,15 +33,14 @@ exceeds-spec =
     (tie.spec
     Inv-loop
     μ-loop
-    (λ c. none-start)
+    (λ c. note-start)
     (λ c. search needs)
     (λ c. search needs)
-    (λ c. search needs)
-    (λ c. search needs)
-    (λ c. search needs)
-    (λ c. search needs)
-    returns
+    (λ c. (let h = at c in omega arith))
+    (λ c. (let h = at c in omega arith))
+    (λ c. (let h = at c in omega arith))
+    (λ c. at (c .before))
     (λ c. search needs)
     (λ c. search needs)
     loop-again
-    (λ c. none-end (c .before .loop .inv) (c .loop-test .left)))
+    (λ c. note-end (c .before .loop .inv) (c .loop-test .left)))

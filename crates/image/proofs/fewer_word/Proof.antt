@@ -3,22 +3,27 @@ use mathlib.Core.Bool.{not, _&&_}
 use borrow.Author.Needs.{needs}
 use Rattle.wordset.specs.Below.{anyBelow}
 use Rattle.wordset.specs.Word.{bit}
-use Rattle.conditions.specs.Entries.{entry}
-use Rattle.image.specs.Covering.{notAll}
-use Rattle.image.proofs.WordLaws.{fewer-none, fewer-some}
+use Rattle.truth.specs.Blocks.{has}
+use Rattle.image.specs.Narrowing.{notAll}
+use Rattle.image.proofs.WordLaws.{fewer-lacking, fewer-none, fewer-some}
 use Rattle.image.proofs.fewer_word.Statement.{statement}
 use Rattle.image.proofs.fewer_word.Tie as tie
 
 returns : tie.Need-returns
 returns c =
-    let b2 = c .before .before in
-    fewer-none (λ u. notAll (b2 .args .cw .now) (b2 .args .r) u && not (anyBelow 64 (λ e. (bit (b2 .args .a) e && not (bit (b2 .args .r) e)) && entry (b2 .args .cw .now) e u))) (c .if1 .taken)
+    let g = c .before .before .args in
+    fewer-none (λ u. notAll (g .w) (g .cw .now) (g .r) u && not (anyBelow 64 (λ e. (bit (g .a) e && not (bit (g .r) e)) && has (g .w) (g .cw .now) e u))) (c .if1 .taken)
 
 returns-2 : tie.Need-returns-2
 returns-2 c =
-    let b1 = c .before in
-    let b4 = b1 .before .before .before in
-    fewer-some (b4 .args .cw .now) (b4 .args .a) (b4 .args .r) (b4 .fits .r .fits) (b1 .lack-word .ensures) (c .some-word .ensures)
+    let g = c .before .before .before .before .args in
+    fewer-lacking (g .w) (g .cw .now) (g .a) (g .r) (c .before .lack-word .ensures) (c .if2 .taken)
+
+returns-3 : tie.Need-returns-3
+returns-3 c =
+    let b5 = c .before .before .before .before .before in
+    let g = b5 .args in
+    fewer-some (g .w) (g .cw .now) (g .a) (g .r) (b5 .fits .r .fits) (c .before .before .lack-word .ensures) (c .some-word .ensures)
 
 pub fewer-word-spec : {M : Type 1} → statement M
-fewer-word-spec = tie.close (tie.spec returns (λ c κs. search needs) (λ c κs. search needs) returns-2)
+fewer-word-spec = tie.close (tie.spec returns (λ c κs. search needs) returns-2 (λ c κs. search needs) returns-3)

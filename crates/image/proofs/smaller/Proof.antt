@@ -45,7 +45,7 @@ fewer-word-requires : tie.Need-fewer-word-requires Inv-loop μ-loop
 fewer-word-requires c κs =
     let b3 = c .before .before .before in
     let b7 = b3 .before .before .before .before in
-    (let t = b3 .loop-test .taken in let g = b7 .pre .0 .1 in let h = b7 .pre .0 .0 in (omega arith, omega arith))
+    (b7 .pre .0 .0, b3 .loop-test .taken)
 
 add-k : tie.Need-add-k Inv-loop μ-loop
 add-k c =
@@ -65,7 +65,7 @@ refusal-set-requires : tie.Need-refusal-set-requires Inv-loop μ-loop
 refusal-set-requires c κs =
     let b5 = c .before .before .before .before .before in
     let b9 = b5 .before .before .before .before in
-    (let t = b5 .loop-test .taken in let g = b9 .pre .0 .1 in let h = b9 .pre .0 .0 in (omega arith, omega arith, low c))
+    (b9 .pre .0 .0, b5 .loop-test .taken, low c)
 
 loop-less-2 : tie.Need-loop-less-2 Inv-loop μ-loop
 loop-less-2 c =

@@ -22,6 +22,13 @@ returns c =
     let b17 = b8 .before .before .before .before .before .before .before .before .before in
     none-leave _ _ (b17 .args .cw .now) (b17 .args .ns .now) (b17 .args .src .now) _ (b17 .args .x) (b8 .left .ensures) (sym (b3 .pick .ensures .1) ∙ not-true _ (c .if2 .taken))
 
+drop-linked-requires : tie.Need-drop-linked-requires
+drop-linked-requires c κs =
+    let b7 = c .before .before .before .before .before .before .before in
+    let p = b7 .before .before .before .before .before .before .before .before .before .before .before .before .before .before .pre in
+    let r = p .0 .1 .2 in
+    ((r .links .room, r .small, search needs), ((λ m t h l. r .links .refuse m h t l), ((let k = b7 .pick .kept .0 in let h = p .1 .3 in omega arith), p .1 .4, p .1 .0, p .1 .1)))
+
 release-requires : tie.Need-release-requires
 release-requires c κs =
     let b6 = c .before .before .before .before .before .before in
@@ -91,7 +98,7 @@ rank-next-spec =
     (λ c. search needs)
     returns
     (λ c κs. search needs)
-    (λ c κs. search needs)
+    drop-linked-requires
     release-requires
     (λ c. search needs)
     (λ c. search needs)
