@@ -28,7 +28,7 @@ use Rattle.frame.specs.Framed.{Framed, Stores}
 use Rattle.frame.specs.SetUp.{Accepts, frameIn, globalsIn, leanIn, membersIn, namesIn, valuesIn}
 use Rattle.frame.specs.declared.Setup.{Setup}
 use Rattle.frame.proofs.Stores as Stores
-use Rattle.frame.proofs.Stores.{enough-words, large-stores, middle-stores, small-stores}
+use Rattle.frame.proofs.Stores.{enough-words}
 use Rattle.frame.proofs.VerdictLaws.{framed-verdict}
 use Rattle.prepare.specs.Width.{wordsFor}
 use Rattle.fitted.specs.Accepted.{TabledIn, bookIn, verdictIn, wordsIn}
@@ -74,18 +74,9 @@ module _ {s : List ℕ} {u : Setup} (x : Accepts s u) where
 
   -- ---- the words that are computed once
 
-  -- what filling them asks of stores of three sizes
-  few-members : u .count ≤ 136
+  -- there are few members
+  pub few-members : u .count ≤ 136
   few-members = let a = framed .sound .few in let b = length-take-le (u .count) (u .members) (x .members-within) in omega arith
-
-  pub small-asked : {tw cw ns base : List ℕ} → (u .count ≤ 72) × (u .words ≤ 4) → length tw ≡ 324 → length cw ≡ 272 → length ns ≡ 80 → length base ≡ 8 → Stores (u .count) (u .words) tw cw ns base
-  small-asked {tw} {cw} {ns} {base} h = small-stores tw cw ns base (h .0) (h .1)
-
-  pub middle-asked : {tw cw ns base : List ℕ} → u .words ≤ 16 → length tw ≡ 2320 → length cw ≡ 1040 → length ns ≡ 144 → length base ≡ 32 → Stores (u .count) (u .words) tw cw ns base
-  middle-asked {tw} {cw} {ns} {base} h = middle-stores tw cw ns base few-members h
-
-  pub large-asked : {tw cw ns base : List ℕ} → length tw ≡ 9280 → length cw ≡ 4112 → length ns ≡ 144 → length base ≡ 128 → Stores (u .count) (u .words) tw cw ns base
-  large-asked {tw} {cw} {ns} {base} = large-stores tw cw ns base few-members few-words
 
   module _ {tw cw ns base : List ℕ} (f : Ready (membersIn u) (leanIn u) (u .words) tw cw ns × Based (u .words) (inBase (membersIn u) (leanIn u) (globalsIn u) (valuesIn u)) (namesIn u) base) (l : u .words + u .words ≤ length base) where
     places : Places (u .words) (leanIn u) (namesIn u) base

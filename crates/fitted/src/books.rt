@@ -40,17 +40,18 @@ fn book_in(
     );
 }
 
-// The same, in room that has the sheet's size.
-pub fn fitted_book(sheet: &[u8], u: Setup, store: &mut [u64])
+// The same for a sheet that is not small, in room of three sizes. Whoever calls it does so in two places, for then the compiler leaves it a function of its own: it has a large frame, and
+// entering that would cost a small sheet a third of its time.
+fn larger_book(sheet: &[u8], u: Setup, store: &mut [u64])
     requires { ⌜ Accepts (now sheet) u ⌝ }
     requires { ⌜ u .namings * u .words ≤ length (now store) ⌝ }
     ensures { λ _. ⌜ now (store .exit) ≡ bookIn (now (sheet .entry)) (now (store .entry)) ⌝ }
 {
-    if frame::is_small(u.count, u.words) {
-        let mut tw = [0u64; 324];
-        let mut cw = [0u64; 272];
-        let mut ns = [0u64; 80];
-        let mut base = [0u64; 8];
+    if u.words <= 8 {
+        let mut tw = [0u64; 1160];
+        let mut cw = [0u64; 528];
+        let mut ns = [0u64; 144];
+        let mut base = [0u64; 16];
         return book_in(sheet, u, store, &mut tw, &mut cw, &mut ns, &mut base);
     }
     if u.words <= 16 {
@@ -64,5 +65,24 @@ pub fn fitted_book(sheet: &[u8], u: Setup, store: &mut [u64])
     let mut cw = [0u64; 4112];
     let mut ns = [0u64; 144];
     let mut base = [0u64; 128];
+    book_in(sheet, u, store, &mut tw, &mut cw, &mut ns, &mut base);
+}
+
+// The same, in room that has the sheet's size.
+pub fn fitted_book(sheet: &[u8], u: Setup, store: &mut [u64])
+    requires { ⌜ Accepts (now sheet) u ⌝ }
+    requires { ⌜ u .namings * u .words ≤ length (now store) ⌝ }
+    ensures { λ _. ⌜ now (store .exit) ≡ bookIn (now (sheet .entry)) (now (store .entry)) ⌝ }
+{
+    if 72 < u.count {
+        return larger_book(sheet, u, store);
+    }
+    if 4 < u.words {
+        return larger_book(sheet, u, store);
+    }
+    let mut tw = [0u64; 324];
+    let mut cw = [0u64; 272];
+    let mut ns = [0u64; 80];
+    let mut base = [0u64; 8];
     book_in(sheet, u, store, &mut tw, &mut cw, &mut ns, &mut base);
 }

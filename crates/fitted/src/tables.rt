@@ -44,8 +44,9 @@ fn table_in(
     )
 }
 
-// The same, in room that has the sheet's size.
-pub fn fitted_table(
+// The same for a sheet that is not small, in room of three sizes. Whoever calls it does so in two places, for then the compiler leaves it a function of its own: it has a large frame, and
+// entering that would cost a small sheet a third of its time.
+fn larger_table(
     sheet: &[u8],
     u: Setup,
     naming: u64,
@@ -56,11 +57,11 @@ pub fn fitted_table(
     requires { ⌜ (u .words ≤ length (now first)) × (u .words ≤ length (now second)) ⌝ }
     ensures { λ c. ⌜ TabledIn (now (sheet .entry)) naming (now (first .entry)) (now (second .entry)) (now (first .exit)) (now (second .exit)) c ⌝ }
 {
-    if frame::is_small(u.count, u.words) {
-        let mut tw = [0u64; 324];
-        let mut cw = [0u64; 272];
-        let mut ns = [0u64; 80];
-        let mut base = [0u64; 8];
+    if u.words <= 8 {
+        let mut tw = [0u64; 1160];
+        let mut cw = [0u64; 528];
+        let mut ns = [0u64; 144];
+        let mut base = [0u64; 16];
         return table_in(
             sheet,
             u,
@@ -94,6 +95,41 @@ pub fn fitted_table(
     let mut cw = [0u64; 4112];
     let mut ns = [0u64; 144];
     let mut base = [0u64; 128];
+    table_in(
+        sheet,
+        u,
+        naming,
+        first,
+        second,
+        &mut tw,
+        &mut cw,
+        &mut ns,
+        &mut base,
+    )
+}
+
+// The same, in room that has the sheet's size.
+pub fn fitted_table(
+    sheet: &[u8],
+    u: Setup,
+    naming: u64,
+    first: &mut [u64],
+    second: &mut [u64],
+) -> Counts
+    requires { ⌜ Accepts (now sheet) u ⌝ }
+    requires { ⌜ (u .words ≤ length (now first)) × (u .words ≤ length (now second)) ⌝ }
+    ensures { λ c. ⌜ TabledIn (now (sheet .entry)) naming (now (first .entry)) (now (second .entry)) (now (first .exit)) (now (second .exit)) c ⌝ }
+{
+    if 72 < u.count {
+        return larger_table(sheet, u, naming, first, second);
+    }
+    if 4 < u.words {
+        return larger_table(sheet, u, naming, first, second);
+    }
+    let mut tw = [0u64; 324];
+    let mut cw = [0u64; 272];
+    let mut ns = [0u64; 80];
+    let mut base = [0u64; 8];
     table_in(
         sheet,
         u,

@@ -38,16 +38,17 @@ fn verdict_in(
     )
 }
 
-// The same, in room that has the sheet's size.
-pub fn fitted_verdict(sheet: &[u8], u: Setup) -> Verdict
+// The same for a sheet that is not small, in room of three sizes. Whoever calls it does so in two places, for then the compiler leaves it a function of its own: it has a large frame, and
+// entering that would cost a small sheet a third of its time.
+fn larger_verdict(sheet: &[u8], u: Setup) -> Verdict
     requires { ⌜ Accepts (now sheet) u ⌝ }
     ensures { λ v. ⌜ verdictIn (now (sheet .entry)) ≡ Judged.verdictOf v ⌝ }
 {
-    if frame::is_small(u.count, u.words) {
-        let mut tw = [0u64; 324];
-        let mut cw = [0u64; 272];
-        let mut ns = [0u64; 80];
-        let mut base = [0u64; 8];
+    if u.words <= 8 {
+        let mut tw = [0u64; 1160];
+        let mut cw = [0u64; 528];
+        let mut ns = [0u64; 144];
+        let mut base = [0u64; 16];
         return verdict_in(sheet, u, &mut tw, &mut cw, &mut ns, &mut base);
     }
     if u.words <= 16 {
@@ -61,5 +62,23 @@ pub fn fitted_verdict(sheet: &[u8], u: Setup) -> Verdict
     let mut cw = [0u64; 4112];
     let mut ns = [0u64; 144];
     let mut base = [0u64; 128];
+    verdict_in(sheet, u, &mut tw, &mut cw, &mut ns, &mut base)
+}
+
+// The same, in room that has the sheet's size.
+pub fn fitted_verdict(sheet: &[u8], u: Setup) -> Verdict
+    requires { ⌜ Accepts (now sheet) u ⌝ }
+    ensures { λ v. ⌜ verdictIn (now (sheet .entry)) ≡ Judged.verdictOf v ⌝ }
+{
+    if 72 < u.count {
+        return larger_verdict(sheet, u);
+    }
+    if 4 < u.words {
+        return larger_verdict(sheet, u);
+    }
+    let mut tw = [0u64; 324];
+    let mut cw = [0u64; 272];
+    let mut ns = [0u64; 80];
+    let mut base = [0u64; 8];
     verdict_in(sheet, u, &mut tw, &mut cw, &mut ns, &mut base)
 }

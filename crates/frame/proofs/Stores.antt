@@ -20,10 +20,10 @@ use Rattle.frame.specs.SetUp.{Accepts, globalsIn, leanIn, membersIn, nam
 use Rattle.frame.specs.declared.Setup.{Setup}
 
 -- stores for so many members over so many words are enough for fewer
-sized : (n w most wide : ℕ) (tw cw ns base : List ℕ) → n ≤ most → w ≤ wide → (most + 9) * wide ≤ length tw → wide * 64 + 16 ≤ length cw → most + 8 ≤ length ns → wide + wide ≤ length base → Stores n w tw cw ns base
-sized n w most wide tw cw ns base h k a b c d =
+pub sized : (most wide : ℕ) {n w : ℕ} {tw cw ns base : List ℕ} → n ≤ most → w ≤ wide → length tw ≡ (most + 9) * wide → length cw ≡ wide * 64 + 16 → length ns ≡ most + 8 → length base ≡ wide + wide → Stores n w tw cw ns base
+sized most wide {n} {w} h k a b c d =
     let p : (n + 9) * w ≤ (most + 9) * wide = mul-le-mul (let q : n + 9 ≤ most + 9 = omega arith in q) k in
-    record { blocks = omega arith; rows = omega arith; needs = omega arith; families = omega arith }
+    record { blocks = omega arith; entries = omega arith; needs = omega arith; families = omega arith }
 
 -- what the elimination goes by
 pub ready-by : {ms ln globals values tw cw ns : List ℕ} {w : ℕ} → Sound ms ln globals values → w ≤ 64 → Truths ms ln w tw → Fields ms ln w tw → Conditions ms ln w cw → Listed ms ns → Ready ms ln w tw cw ns
@@ -44,17 +44,3 @@ module _ {s : List ℕ} {u : Setup} (a : Accepts s u) where
   pub fill-asks : {tw cw ns base : List ℕ} → Stores (u .count) (u .words) tw cw ns base
       → (Sound (membersIn u) (leanIn u) (globalsIn u) (valuesIn u) × Named (namesIn u) (length (leanIn u))) × ((u .words ≤ 64) × Stores (length (membersIn u)) (u .words) tw cw ns base)
   fill-asks {tw} {cw} {ns} {base} r = ((a .framed .sound, a .framed .named), (few-words (a .framed), subst (λ n. Stores n (u .words) tw cw ns base) (sym count-is) r))
-
--- ---- three sizes of stores
-
--- a small sheet: up to 8 places and 72 members
-pub small-stores : {n w : ℕ} (tw cw ns base : List ℕ) → n ≤ 72 → w ≤ 4 → length tw ≡ 324 → length cw ≡ 272 → length ns ≡ 80 → length base ≡ 8 → Stores n w tw cw ns base
-small-stores {n} {w} tw cw ns base h k a b c d = sized n w 72 4 tw cw ns base h k (omega arith) (omega arith) (omega arith) (omega arith)
-
--- up to 10 places
-pub middle-stores : {n w : ℕ} (tw cw ns base : List ℕ) → n ≤ 136 → w ≤ 16 → length tw ≡ 2320 → length cw ≡ 1040 → length ns ≡ 144 → length base ≡ 32 → Stores n w tw cw ns base
-middle-stores {n} {w} tw cw ns base h k a b c d = sized n w 136 16 tw cw ns base h k (omega arith) (omega arith) (omega arith) (omega arith)
-
--- up to 12 places
-pub large-stores : {n w : ℕ} (tw cw ns base : List ℕ) → n ≤ 136 → w ≤ 64 → length tw ≡ 9280 → length cw ≡ 4112 → length ns ≡ 144 → length base ≡ 128 → Stores n w tw cw ns base
-large-stores {n} {w} tw cw ns base h k a b c d = sized n w 136 64 tw cw ns base h k (omega arith) (omega arith) (omega arith) (omega arith)

@@ -70,10 +70,10 @@ FramedAs ms ln kinds places globals′ names′ values′ f =
     (s : List ℕ) (r : Reading) → Given ms ln kinds places s r
     → Framed (tableauIn s) (positive (goalOf (formulas s))) ms ln (take (f .globals) globals′) (take (f .names) names′) (take (f .values) values′) f
 
--- the stores that the words ask for, which are computed from so many members over w words: a block for each member and nine for the fields, the rows of conditions with the modes' sets, the
+-- the stores that the words ask for, which are computed from so many members over w words: a block for each member and nine for the fields, the entries of conditions with the modes' sets, the
 -- needs, and two families
 pub record Stores (count w : ℕ) (tw cw ns base : List ℕ) : Type 0 where
   pub blocks : (count + 9) * w ≤ length tw
-  pub rows : w * 64 + 16 ≤ length cw
+  pub entries : w * 64 + 16 ≤ length cw
   pub needs : count + 8 ≤ length ns
   pub families : w + w ≤ length base

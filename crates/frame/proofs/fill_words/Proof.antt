@@ -22,7 +22,7 @@ condition-words-requires : tie.Need-condition-words-requires
 condition-words-requires c κs =
     let b4 = c .before .before .before .before in
     let b19 = b4 .before .before .before .before .before .before .before .before .before .before .before .before .before .before .before in
-    ((b19 .pre .0 .0 .table, (b19 .pre .0 .0 .leans, (b19 .pre .0 .0 .places, b19 .pre .0 .0 .narrow))), (b4 .field-words .ensures .0, (b19 .pre .1 .1 .rows, (let w = b19 .pre .1 .0 in omega arith))))
+    ((b19 .pre .0 .0 .table, (b19 .pre .0 .0 .leans, (b19 .pre .0 .0 .places, b19 .pre .0 .0 .narrow))), (b4 .field-words .ensures .0, (b19 .pre .1 .1 .entries, (let w = b19 .pre .1 .0 in omega arith))))
 
 base-words-requires : tie.Need-base-words-requires
 base-words-requires c κs =
