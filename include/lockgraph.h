@@ -7,7 +7,7 @@
  *   is aligned for its type, also where the length is 0;
  * - `out` has as many words as its prototype says;
  * - a store that is written, and `out`, overlaps no other argument. Two that are only read may overlap;
- * - a stack with 256 KiB left; the most that has been seen in use is 216.
+ * - a stack with 256 KiB left; the most that has been seen in use is 176.
  *
  * What a caller gets:
  * - the caller owns every store. No function keeps a pointer, allocates, or has a state: calls from several threads are free where they write to different stores;
