@@ -40,8 +40,8 @@ fn book_in(
     );
 }
 
-// The same for a sheet that is not small, in room of three sizes. Whoever calls it does so in two places, for then the compiler leaves it a function of its own: it has a large frame, and
-// entering that would cost a small sheet a third of its time.
+// The same for a sheet that is not small, in room of three sizes. It is to stay a function of its own, since entering its large frame would cost a small sheet a third of its time. The
+// compiler of today leaves it one because it is as long as this and called in two places: with two sizes, or called in one place, it was compiled into its caller (docs/DECISIONS.md, 111).
 fn larger_book(sheet: &[u8], u: Setup, store: &mut [u64])
     requires { ⌜ Accepts (now sheet) u ⌝ }
     requires { ⌜ u .namings * u .words ≤ length (now store) ⌝ }
