@@ -1,4 +1,6 @@
 // The tables of all namings, one after the other in a store. Assumes nothing.
+#![tactic(auto)]
+
 ghost use Rattle.std.specs.Prelude.{◌≡◌, ◌++◌, ◌*◌, ◌≤◌, length, drop};
 ghost use Rattle.ctl.specs.Lists.{elem};
 ghost use Rattle.wordset.specs.Words.{packed};

@@ -1,4 +1,6 @@
 // Texts put into a buffer behind the bytes that it holds; the answer is how many it holds then. Assumes nothing.
+#![tactic(auto)]
+
 ghost use Rattle.std.specs.Prelude.{◌+◌, ◌≤◌, length};
 ghost use Rattle.buffer.specs.Put.{Put};
 

@@ -1,5 +1,7 @@
 // A sheet that was read, written clean into a store: lines 1 and 2 as they are, then each formula in canonical print. All lines are measured before the first byte is written.
 // Assumes nothing.
+#![tactic(auto)]
+
 mod print;
 
 ghost use Rattle.std.specs.Prelude.{◌≡◌, ◌+◌, ◌≤◌, length};
@@ -17,7 +19,7 @@ use prints::measure;
 use reader::Reading;
 
 // How many bytes a text has; or that it, or one of its lines, is too long.
-#[derive(Drop)]
+#[derive(Clone, Copy)]
 pub enum Length {
     Over,
     Bytes(usize),

@@ -1,6 +1,8 @@
 // Links between types as conditions. What a closure member asks of a link is a condition that one type demands and the other refuses, and a lean place gives at most two:
 // its own, and that of an AU both ways below an AX. So there is a place for each among the words, and no count of them. Conditions that no type demands or no type
 // refuses are left out. Assumes nothing.
+#![tactic(auto)]
+
 ghost use Rattle.std.specs.Prelude.{◌≡◌, true, false, ℕ, ◌+◌, ◌*◌, ◌/◌, ◌%◌, ◌≤◌, ◌<◌, length, get_or};
 ghost use Rattle.wordset.specs.Answers.{Answers};
 ghost use Rattle.wordset.specs.Word.{bit};
@@ -15,7 +17,7 @@ use members::parts::{arg, has_mode, left, mode_of, right, tag};
 
 // How a condition is demanded: by the types in which the member is true, of those with its body; by the types without its body, of those in which it is false; or by the
 // types in which it is true without its right operand, of those that are not like them.
-#[derive(Drop)]
+#[derive(Clone, Copy)]
 pub enum Rule {
     Forward,
     Backward,
@@ -23,7 +25,7 @@ pub enum Rule {
 }
 
 // A condition of links along a field (8: of none), by its rule, a member, and its body or right operand.
-#[derive(Drop)]
+#[derive(Clone, Copy)]
 pub struct Condition {
     pub field: usize,
     pub rule: Rule,

@@ -9,7 +9,7 @@ use corpus_text::number::{ends, has_slash, number_at, pair_at};
 use lockgraph::{Limits, usual_limits};
 
 // The limits of a call, and where its own words begin: past the line's end where it has none.
-#[derive(Drop)]
+#[derive(Clone, Copy)]
 struct Given {
     limits: Limits,
     next: usize,

@@ -3,7 +3,7 @@
 use crate::run::{finish, is_case, write_line};
 use corpus_text::text::{put, whole};
 
-#[derive(Drop)]
+#[derive(Clone, Copy)]
 pub struct State {
     // The bytes of the line so far.
     pub len: usize,

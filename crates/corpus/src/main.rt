@@ -1,6 +1,8 @@
 // Reads a corpus of cases on standard input, of any length, a line at a time, and writes the outcome of each line, as the second checker's `corpus` does
 // (second_checker/README.md has the format), but of `facts`, which it passes over. A line that is not understood, or asks for a book of more words than the
 // program has, ends the run, with a word on standard error.
+#![tactic(auto)]
+
 mod book;
 mod call;
 mod clean;

@@ -3,7 +3,7 @@ use crate::call::answer;
 use corpus_text::text::unescape;
 
 // How many bytes the sheet in hand has then, and whether the line was not understood.
-#[derive(Drop)]
+#[derive(Clone, Copy)]
 pub struct Done {
     pub sheet: usize,
     pub stop: bool,

@@ -1,5 +1,7 @@
 // What a corpus and its outcomes are written in: escaped texts, decimal numbers, stores filled with a pattern, the parts that outcome lines
 // have in common, and what List, Book, Clean and Snapshot answer.
+#![tactic(auto)]
+
 pub mod cleaned;
 pub mod number;
 pub mod outcome;

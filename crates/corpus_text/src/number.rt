@@ -5,7 +5,7 @@ ghost use Rattle.std.specs.Prelude.{◌≤◌};
 const MOST_TENFOLD: u64 = 1844674407370955161;
 
 // A number, and the place behind the space that ends it: past the line's end where nothing is left.
-#[derive(Drop)]
+#[derive(Clone, Copy)]
 pub struct Number {
     pub value: u64,
     pub next: usize,
@@ -13,7 +13,7 @@ pub struct Number {
 }
 
 // Two numbers, and the place behind the space that ends them.
-#[derive(Drop)]
+#[derive(Clone, Copy)]
 pub struct Pair {
     pub first: u64,
     pub second: u64,
@@ -22,7 +22,7 @@ pub struct Pair {
 }
 
 // The digits so far, and whether they are digits of a number that fits.
-#[derive(Drop)]
+#[derive(Clone, Copy)]
 struct Digits {
     value: u64,
     right: bool,

@@ -2,14 +2,14 @@
 ghost use Rattle.std.specs.Prelude.{◌≤◌, length};
 
 // The bytes that a text stands for, as far as the store has room, and whether the text is one.
-#[derive(Drop)]
+#[derive(Clone, Copy)]
 pub struct Read {
     pub count: usize,
     pub right: bool,
 }
 
 // One byte of a text: its value, and where the next begins; `next` is 0 where the text is wrong.
-#[derive(Drop)]
+#[derive(Clone, Copy)]
 pub struct Escape {
     pub value: u8,
     pub next: usize,

@@ -1,4 +1,6 @@
 // What a store says of the nodes of a snapshot: the symbols on them, and where the modes of a set lead. Assumes nothing.
+#![tactic(auto)]
+
 pub mod nodes;
 
 ghost use Rattle.std.specs.Prelude.{◌≡◌, ◌+◌, ◌*◌, ◌≤◌, ◌<◌, length};

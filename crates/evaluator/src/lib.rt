@@ -1,5 +1,7 @@
 // The row of a snapshot: at which nodes the goal and the globals hold. Every closure member is evaluated once, as a word of nodes. Throughout,
 // out is the store of a snapshot with n nodes and ws the table of closure members. Assumes nothing.
+#![tactic(auto)]
+
 mod operators;
 mod values;
 

@@ -1,4 +1,6 @@
 // Operators with their expansions, as members of a table: each in two dual forms, told apart by a Boolean. Assumes nothing.
+#![tactic(auto)]
+
 ghost use Rattle.std.specs.Prelude.{◌≡◌, [], ◌∷◌, ◌+◌, ◌-◌, ◌^◌, ◌≤◌, ◌<◌, get_or, take};
 ghost use Rattle.ctl.specs.Formula.{tru};
 ghost use Rattle.ctl.specs.Closure.{spine};

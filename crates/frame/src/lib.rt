@@ -1,5 +1,7 @@
 // From a sheet's bytes to what judging it needs, all that depends on the sheet alone, once for all namings: first what is read off the sheet,
 // then the words that are computed from it, in stores that are lent. Assumes nothing.
+#![tactic(auto)]
+
 ghost use Rattle.std.specs.Prelude.{◌≡◌, true, List, ℕ, ◌+◌, ◌-◌, ◌*◌, ◌^◌, ◌≤◌, ◌<◌, length, get_or, take};
 ghost use Rattle.tableau.specs.Families.{Ready};
 ghost use Rattle.start.specs.Starts.{Based, in_base, Named};
@@ -34,7 +36,7 @@ fn count_namings(names: usize, width: usize) -> u64
 
 // How many words hold the types; how many globals, names and values there are; the goal's place in the
 // table; how many namings there are.
-#[derive(Drop)]
+#[derive(Clone, Copy)]
 pub struct Frame {
     pub words: usize,
     pub globals: usize,
@@ -75,7 +77,7 @@ fn frame_of(
 
 // What judging a sheet goes by: its closure with the values that do not occur, and its lean, as the reader has them, the places of globals,
 // names and values, and the frame's numbers; or its refusal, with nothing else.
-#[derive(Drop)]
+#[derive(Clone, Copy)]
 pub struct Setup {
     pub refusal: u8,
     pub count: usize,

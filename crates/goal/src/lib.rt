@@ -1,11 +1,13 @@
 // The least type of a set in which a member, the goal, is true. Assumes nothing.
+#![tactic(auto)]
+
 ghost use Rattle.std.specs.Prelude.{◌≡◌, ◌≤◌, ◌<◌, length};
 ghost use Rattle.ctl.specs.Lists.{keep};
 ghost use Rattle.truth.specs.Truths.{Truths, true_at};
 ghost use Rattle.truth.specs.Blocks.{list_of};
 ghost use Rattle.goal.specs.Goals.{first_of};
 
-#[derive(Drop)]
+#[derive(Clone, Copy)]
 pub enum Found {
     At(usize),
     Nothing,

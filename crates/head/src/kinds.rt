@@ -56,7 +56,7 @@ pub fn kind_right(seen: &[u8], k: u8) -> bool
 }
 
 // The symbols' kinds; none where line 2 is wrong.
-#[derive(Drop)]
+#[derive(Clone, Copy)]
 pub struct Kinds {
     pub count: usize,
     pub kinds: [u8; 8],

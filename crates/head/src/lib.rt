@@ -1,4 +1,6 @@
 // The head of a sheet, its lines 1 and 2: the symbols' spellings and kinds, and the refusals 1 to 5. Assumes nothing.
+#![tactic(auto)]
+
 mod declarations;
 mod kinds;
 mod names;
@@ -13,7 +15,7 @@ use names::line_one;
 
 // What lines 1 and 2 say, with the lowest of the refusals 1 to 5, 0 for none: the symbols' number, spellings as words, kinds and declarations, and
 // the place of the third line.
-#[derive(Drop)]
+#[derive(Clone, Copy)]
 pub struct Head {
     pub refusal: u8,
     pub count: usize,

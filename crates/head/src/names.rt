@@ -36,7 +36,7 @@ pub fn name_right(seen: &[u64], word: &[u8]) -> bool
 }
 
 // The symbols' spellings, as words; none where line 1 is wrong.
-#[derive(Drop)]
+#[derive(Clone, Copy)]
 pub struct Names {
     pub count: usize,
     pub words: [u64; 8],

@@ -1,5 +1,7 @@
 // Types that are linked to a set, by the conditions of links. Whoever is linked to a type is linked to every type that refuses less, so a set is covered by few of the
 // sets of conditions that its types refuse. Assumes nothing.
+#![tactic(auto)]
+
 pub mod blocks;
 mod narrowing;
 

@@ -33,7 +33,7 @@ fn pass_word(cw: &[u64], w: usize, r: u64, k: usize, lack: bool) -> u64
 }
 
 // Four words, one after the other.
-#[derive(Drop)]
+#[derive(Clone, Copy)]
 pub struct Four {
     pub a: u64,
     pub b: u64,

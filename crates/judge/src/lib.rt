@@ -1,4 +1,6 @@
 // Judging: the namings in their order, until one has a surviving type with the goal. Assumes nothing.
+#![tactic(auto)]
+
 ghost use Rattle.std.specs.Prelude.{◌≡◌, ◌≤◌, ◌<◌, length};
 ghost use Rattle.tableau.specs.Families.{Ready, Rounds, Survivors};
 ghost use Rattle.start.specs.Starts.{start_list};
@@ -11,7 +13,7 @@ use start::start_words;
 use tableau::eliminate::settle;
 use tableau::table::{Counts, table};
 
-#[derive(Drop)]
+#[derive(Clone, Copy)]
 pub enum Verdict {
     Open { naming: u64, least: usize },
     Unsatisfiable,

@@ -25,7 +25,7 @@ pub fn text_at(s: &[u8], at: usize, e: usize) -> usize
 }
 
 // A part of the sheet.
-#[derive(Drop)]
+#[derive(Clone, Copy)]
 pub struct Span {
     pub start: usize,
     pub end: usize,

@@ -1,4 +1,6 @@
 // Sheets under the limits that a caller gives: how many places the lean and how many members the closure may have. Assumes nothing.
+#![tactic(auto)]
+
 ghost use Rattle.std.specs.Prelude.{◌≡◌, ◌↔◌, [], ◌+◌};
 ghost use Rattle.sheet.specs.Sheet.{goal_under, goal_start};
 ghost use Rattle.limits.specs.Limits.{usual, limits_wrong, refusal_under, ReadUnder};
@@ -6,7 +8,7 @@ ghost use Rattle.limits.specs.Limits.{usual, limits_wrong, refusal_under, ReadUn
 use reader::{Reading, Refusal};
 
 // The most places of a lean, from 1 to 12, and the most members of a closure, from 16 to 128. Any other numbers are refused, with 19.
-#[derive(Drop)]
+#[derive(Clone, Copy)]
 pub struct Limits {
     pub lean: usize,
     pub closure: usize,

@@ -1,4 +1,6 @@
 // The lines that the program prints, each put into a buffer behind the bytes that it holds; the answer is how many it holds then. Assumes nothing.
+#![tactic(auto)]
+
 ghost use Rattle.std.specs.Prelude.{◌++◌, ◌+◌, ◌≤◌, length};
 ghost use Rattle.judge.specs.Judged.{verdict_of};
 ghost use Rattle.lines.specs.Lines.{decimal, spaced, heading_line, naming_line, verdict_heading, verdict_line, refused_line};

@@ -1,4 +1,6 @@
 // The public library: every operation on a sheet's bytes, for any arguments, with its whole outcome; each once with limits, and once without, under document 01's. Assumes nothing.
+#![tactic(auto)]
+
 ghost use Rattle.std.specs.Prelude.{◌≡◌, ◌↔◌, [], ◌+◌};
 ghost use Rattle.sheet.specs.Sheet.{goal_start, goal_under};
 ghost use Rattle.limits.specs.Limits.{refusal_under, usual};

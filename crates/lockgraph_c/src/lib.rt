@@ -1,5 +1,7 @@
 // The public library for C and Rust: each operation with its refusal's number, or 0, as the result, and its numbers through a lent array, which keeps its contents with a
 // refusal; each once with limits, the lean's and then the closure's, and once without, under document 01's. Assumes nothing.
+#![tactic(auto)]
+
 mod books;
 mod cleans;
 mod goals;

@@ -1,4 +1,6 @@
 // The table of closure members: a word for each, over the places of those before it. A member is appended where it is new. Assumes nothing.
+#![tactic(auto)]
+
 ghost use Rattle.std.specs.Prelude.{◌≡◌, [], ◌∷◌, ℕ, ◌+◌, ◌-◌, ◌*◌, ◌^◌, ◌≤◌, ◌<◌, length, get_or, take};
 ghost use Rattle.ctl.specs.Formula.{tru};
 ghost use Rattle.members.specs.Members.{word_of, form_of, form_by, forms, Canon};
@@ -7,7 +9,7 @@ ghost use Rattle.members.specs.Grown.{Ready, Answer};
 pub mod parts;
 
 // What adding a formula finds: its place and how many members there are then; or that the table has no room.
-#[derive(Drop)]
+#[derive(Clone, Copy)]
 pub enum Added {
     At { index: usize, count: usize },
     Full,

@@ -1,9 +1,11 @@
 // The naming in hand, moved on to the next until none is left. Assumes nothing.
+#![tactic(auto)]
+
 ghost use Rattle.std.specs.Prelude.{◌≡◌};
 ghost use Rattle.naming.specs.Next.{start_of, next_of, is_one};
 
 // The number of the naming in hand, and how many there are. None is in hand where the number is not below the count.
-#[derive(Drop)]
+#[derive(Clone, Copy)]
 pub struct Naming {
     pub number: u64,
     pub count: u64,

@@ -1,4 +1,6 @@
 // What a round asks for, listed once for a sheet, and the blocks of truth words that are wanted for it besides those of the members. Assumes nothing.
+#![tactic(auto)]
+
 pub mod parts;
 
 ghost use Rattle.std.specs.Prelude.{◌≡◌, Bool, ◌&&◌, ◌||◌, cond, ℕ, ◌+◌, ◌*◌, ◌%◌, ◌^◌, ◌≤◌, ◌<◌, eqb, length, set, take};

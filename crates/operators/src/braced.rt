@@ -7,7 +7,7 @@ use spelling::entry;
 use token::{Tok, Token, next_token, next_two};
 
 // What reading braces finds: the position after them, the set of modes and the lowest refusal; or no braces.
-#[derive(Drop)]
+#[derive(Clone, Copy)]
 pub enum Modes {
     Set { next: usize, mask: u32, low: u8 },
     No,

@@ -19,7 +19,7 @@ pub fn modal_kind(m: Modal) -> u8
 }
 
 // The operators of two operands.
-#[derive(Drop)]
+#[derive(Clone, Copy)]
 pub enum Binary {
     Eu,
     Au,
@@ -27,7 +27,7 @@ pub enum Binary {
     Ar,
 }
 
-#[derive(Drop)]
+#[derive(Clone, Copy)]
 pub enum Choice {
     Is(Binary),
     No,

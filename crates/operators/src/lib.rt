@@ -1,4 +1,6 @@
 // The operators with modes: which they are, and the set of modes in their braces. Assumes nothing.
+#![tactic(auto)]
+
 mod braced;
 mod kinds;
 mod sets;

@@ -3,7 +3,7 @@ ghost use Rattle.std.specs.Prelude.{◌≡◌, ◌^◌, ◌≤◌, ◌<◌, min}
 ghost use Rattle.operators.specs.Modes.{marked_of, with_mode};
 
 // A set of modes, and the refusal that its braces give: 9 for none, 8 for a mode twice, 7 for a symbol that is no field.
-#[derive(Drop)]
+#[derive(Clone, Copy)]
 pub struct Marked {
     pub mask: u32,
     pub low: u8,

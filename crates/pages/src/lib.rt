@@ -1,4 +1,6 @@
 // The lines of a sheet's namings, a page at a time: as many as fit into a buffer. Assumes nothing.
+#![tactic(auto)]
+
 ghost use Rattle.std.specs.Prelude.{◌≡◌, ◌+◌, ◌≤◌, ◌<◌, length};
 ghost use Rattle.tableau.specs.Families.{Ready};
 ghost use Rattle.judge.specs.Judged.{goals_at, Places, Judged};
@@ -26,7 +28,7 @@ fn later(v: Verdict, r: u64, found: Found) -> Verdict
 }
 
 // The naming in hand after a page, how many bytes of the buffer are used, and the verdict on the namings before the one in hand.
-#[derive(Drop)]
+#[derive(Clone, Copy)]
 pub struct Page {
     pub naming: Naming,
     pub used: usize,

@@ -1,4 +1,6 @@
 // What the tableau needs besides the reader's answer: which of the lean's places are names and values, and how many words hold its types.
+#![tactic(auto)]
+
 ghost use Rattle.std.specs.Prelude.{◌≡◌, cond, ◌+◌, ◌≤◌, ◌<◌, length, set};
 ghost use Rattle.prepare.specs.Places.{kind_word, places_by, Sought, Found};
 ghost use Rattle.prepare.specs.Width.{words_for};

@@ -1,4 +1,6 @@
 // Reading a sheet within given limits: from its bytes to symbols, kinds, formulas, closure and lean, or to one refusal.
+#![tactic(auto)]
+
 ghost use Rattle.std.specs.Prelude.{◌≡◌, ◌-◌, ◌≤◌, ◌<◌, length};
 ghost use Rattle.reader.specs.Reader.{refusal_by, number_of, blank, RootsAre, ReadIs};
 
@@ -6,7 +8,7 @@ use closure::Closed;
 use lean::Gathered;
 
 // Why a sheet is refused; `Accepted` where it is not. `Limits` is for those who give limits: they are out of their range, whatever the sheet.
-#[derive(Drop)]
+#[derive(Clone, Copy)]
 pub enum Refusal {
     Accepted,
     Length,
@@ -42,7 +44,7 @@ fn refusal_by(k: u8) -> Refusal
 
 // What a sheet says: its symbols' spellings as words and kinds (1 mark, 2 name, 3 field, 4 value); the members of its closure and behind them the values that do not occur, each a
 // word over those before it; the places among them of its formulas in positive form, globals first, then the goal; and of its lean, in order.
-#[derive(Drop)]
+#[derive(Clone, Copy)]
 pub struct Reading {
     pub refusal: Refusal,
     pub symbols: usize,

@@ -1,5 +1,7 @@
 // What the program prints of a sheet: its refusal; or a line for each naming, then the verdict. No contract can speak of output, so the only function that writes asks for
 // the right bytes, and a count of the lines that it was handed goes with each call, from 0 in `report` up to all that the text has. Assumes nothing.
+#![tactic(auto)]
+
 mod cleaned;
 mod progress;
 

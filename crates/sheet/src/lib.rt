@@ -1,4 +1,6 @@
 // The sheet: its formulas, and the refusals 1 to 8.
+#![tactic(auto)]
+
 ghost use Rattle.std.specs.Prelude.{◌≡◌, ◌+◌, ◌-◌, ◌≤◌, ◌<◌, length, true};
 ghost use Rattle.layout.specs.Layout.{lines_from, texts_of, layout_right};
 ghost use Rattle.sheet.specs.Sheet.{found_refusal, OneRead, FormulasRead, SheetRead, goal_under, goal_start};
@@ -6,7 +8,7 @@ ghost use Rattle.sheet.specs.Sheet.{found_refusal, OneRead, FormulasRead, SheetR
 use syntax::Parse;
 
 // A formula that was read: how many nodes the table then holds, and its refusal 6, 7 or 8, or 9 for none.
-#[derive(Drop)]
+#[derive(Clone, Copy)]
 pub struct One {
     pub count: usize,
     pub low: u8,
@@ -43,7 +45,7 @@ fn read_one(text: &[u8], decl: &[u64], tab: &mut [u64], n: usize) -> One
 }
 
 // The formulas that were read: the lowest of their refusals, how many there are, how many nodes, and the place after each formula's own node.
-#[derive(Drop)]
+#[derive(Clone, Copy)]
 pub struct Formulas {
     pub low: u8,
     pub lines: usize,
@@ -89,7 +91,7 @@ fn read_formulas(s: &[u8], from: usize, decl: &[u64], tab: &mut [u64]) -> Formul
 
 // A sheet that was read: the lowest of the refusals 1 to 8, 0 for none; the symbols' number, spellings as words and kinds (1 mark, 2 name, 3 field, 4 value); and the
 // formulas, globals first, then the goal.
-#[derive(Drop)]
+#[derive(Clone, Copy)]
 pub struct Sheet {
     pub refusal: u8,
     pub symbols: usize,

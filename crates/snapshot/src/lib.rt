@@ -1,5 +1,7 @@
 // A snapshot's text with its answer: its entries are read into a store (`snapshot_text`), and held against their limits. The kinds of the symbols, in line 1 order, are
 // 1 for a mark, 2 for a name, 3 for a field and 4 for a value. Assumes nothing.
+#![tactic(auto)]
+
 mod entries;
 
 ghost use Rattle.std.specs.Prelude.{◌≡◌, ◌*◌, ◌≤◌, length};
@@ -7,7 +9,7 @@ ghost use Rattle.snapshot_text.specs.Lines.{line_store};
 ghost use Rattle.snapshot.specs.Read.{judged, read_snapshot, Few};
 
 // The number of the refusal, or the node count.
-#[derive(Drop)]
+#[derive(Clone, Copy)]
 pub enum Answer {
     Refused(u8),
     Nodes(usize),

@@ -1,10 +1,12 @@
 // The lines of a snapshot's text, read byte by byte into a store of entries: the entry of symbol k at node i is at place 8 * i + k. Assumes nothing.
+#![tactic(auto)]
+
 ghost use Rattle.std.specs.Prelude.{◌≡◌, ◌≤◌, length, get_or, set, drop};
 ghost use Rattle.snapshot_text.specs.Lines.{state_of, start_state, bad_state, space_step, newline_step, digit_step, byte_step, Inside, run, starts, line_count, line_store};
 
 // The reader between two bytes: the node and the symbol whose entry it reads, and that entry's digits so far: how many (3 for text that is
 // refused) and their value.
-#[derive(Drop)]
+#[derive(Clone, Copy)]
 struct State {
     node: usize,
     symbol: usize,

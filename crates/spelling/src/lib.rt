@@ -1,4 +1,6 @@
 // The spelling of a symbol as one word: up to 8 lower-case letters, a byte each, the first lowest. Assumes nothing.
+#![tactic(auto)]
+
 ghost use Rattle.std.specs.Prelude.{◌≡◌, ℕ, ◌+◌, ◌^◌, ◌≤◌, ◌<◌, length, get_or, drop};
 ghost use Rattle.spelling.specs.Spelling.{lower, run, spelled, word, letters_from, entry_in};
 

@@ -1,5 +1,7 @@
 // The start types, by words. Once for all namings: the types that hold one value and make the globals true, those without a name apart from those with one. Then for each
 // naming: those without a name, and for each name the one type that the naming leaves to it. Assumes nothing.
+#![tactic(auto)]
+
 ghost use Rattle.std.specs.Prelude.{◌≡◌, ◌&&◌, ◌||◌, ℕ, ◌+◌, ◌*◌, ◌^◌, ◌≤◌, ◌<◌, eqb, ltb, length, get_or};
 ghost use Rattle.wordset.specs.Words.{member, packed};
 ghost use Rattle.wordset.specs.Answers.{Answers};

@@ -5,7 +5,7 @@ ghost use Rattle.syntax.specs.Parse.{letter_low};
 
 // What reading a formula or a unit finds: the position after it, how many nodes the table then holds, and the lowest refusal of its
 // symbols and braces (7, 8, or 9 for none); or that nothing parses.
-#[derive(Drop)]
+#[derive(Clone, Copy)]
 pub enum Parse {
     Done { next: usize, count: usize, low: u8 },
     Wrong,

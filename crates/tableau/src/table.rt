@@ -8,7 +8,7 @@ use crate::eliminate::settle;
 use start::start_words;
 
 // How many start types a naming has, how many types survive, and after how many rounds.
-#[derive(Drop)]
+#[derive(Clone, Copy)]
 pub struct Counts {
     pub start: usize,
     pub left: usize,

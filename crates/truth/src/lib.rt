@@ -1,6 +1,8 @@
 // Truth of every member in all types, block after block. A member is true by its tag, its operands' blocks and places of the lean: an
 // until or a release goes through EX and AX over its single modes. A set of types is w words: type t is bit t mod 64 of word t div 64. Throughout, ms is the table of closure
 // members, with values that do not occur behind them, ln the lean by its members' places in ms, tw the truth words (block i: the types in which member i is true). Assumes nothing.
+#![tactic(auto)]
+
 pub mod blocks;
 
 ghost use Rattle.std.specs.Prelude.{◌≡◌, Bool, ℕ, ◌+◌, ◌*◌, ◌≤◌, ◌<◌, length};

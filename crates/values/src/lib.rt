@@ -1,5 +1,7 @@
 // The values that do not occur, in a table of members: each declared value that is not among the closure's members is put behind them, so that the lean has all values.
 // A symbol's kind is 4 for a value. Assumes nothing.
+#![tactic(auto)]
+
 ghost use Rattle.std.specs.Prelude.{◌+◌, ◌≤◌, ◌<◌, length, [], eqb};
 ghost use Rattle.ctl.specs.Lists.{put};
 ghost use Rattle.ctl.specs.Formula.{lit};

@@ -1,6 +1,8 @@
 // Reads a sheet on standard input, to its end, and prints a line for each of its namings and the verdict, or its refusal. With the word `clean` as its first argument it prints the
 // sheet written clean, or its refusal. Two numbers behind that are the limits of the lean and of the closure; without them they are document 01's. Any other arguments are refused
 // as limits out of their range are.
+#![tactic(auto)]
+
 ghost use Rattle.std.specs.Prelude.{◌≤◌};
 
 use limits::Limits;

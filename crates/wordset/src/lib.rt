@@ -1,4 +1,6 @@
 // Sets of numbers as bits of 64-bit words: number j is bit j mod 64 of word j div 64. Every function takes any word count.
+#![tactic(auto)]
+
 ghost use Rattle.std.specs.Prelude.{◌≡◌, not, ◌&&◌, ℕ, ◌+◌, ◌*◌, ◌^◌, ◌≤◌, ◌<◌, length};
 ghost use Rattle.std.specs.Bool.{beq};
 ghost use Rattle.wordset.specs.Below.{all_below, any_below, count_below, least};

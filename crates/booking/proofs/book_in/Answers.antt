@@ -1,0 +1,55 @@
+use Prim.Native.Nat.{◌+◌, ◌-◌, ◌*◌, ◌≤◌, ◌<◌}
+use native.Mathlib.Omega.{arith}
+use lib.ListN.{length}
+use Rattle.naming.proofs.NextLaws.{start-number, start-count, in-hand, none_left, next-number, next-count, next-less}
+use Rattle.judge.proofs.JudgeLaws.{kept-start}
+use Rattle.booking.proofs.Tails.{tail-length}
+use Rattle.booking.proofs.BookLaws.{written_start, written-moved, written-room, written_next, written-end}
+use Rattle.booking.proofs.book_in.Goals as goal
+
+abbrev start : goal.In-loop-n → goal.Start
+start c = c.before.before.before.before.before.before.before.before.before.before.before.before.before.before.before.before.before
+
+hand : (c : goal.In-loop-n) → c.loop-n.n.number < (start c).args.namings
+hand c = in-hand _ c.loop-n.invariant.1.0 c.loop-n-test.true
+
+room : (c : goal.In-loop-n) → c.loop-n.n.number * (start c).args.w + (start c).args.w ≤ length c.loop-n.store
+room c = written-room c.loop-n.invariant.0 (hand c)
+
+pub loop-n-init : goal.loop-n-init
+loop-n-init c =
+    let e = c.first-n.ensures in (written-moved (written_start c.requires.places.1) (start-number _ e), (start-count _ e, kept-start))
+
+pub fill_one-requires : goal.fill_one-requires
+fill_one-requires c =
+    let at = c.loop-n in
+    let s = start b6 in record { ready = s.pre.0; places = (s.pre.1.0.0, omega (arith, room b6, tail-length at.store (at.n.number * s.args.w))) }
+
+pub loop-n-smaller : goal.loop-n-smaller
+loop-n-smaller c =
+    next-less _ _ c.advanced-n.ensures c.loop-n-test.true
+
+pub loop-n-preserved : goal.loop-n-preserved
+loop-n-preserved c =
+    let inv = c.loop-n.invariant in
+    let e = c.advanced-n.ensures in
+    let written = written_next c.fill_one.new.store inv.0 (hand b20) c.fill_one.ensures in
+    (written-moved written (next-number _ _ e c.loop-n-test.true), (next-count _ _ e inv.1.0, omega (arith, written.long, c.fill_one.auto)))
+
+pub returns : goal.returns
+returns c = let inv = c.loop-n.invariant in written-end inv.0 (none_left _ inv.1.0 c.loop-n-test.false)
+
+pub overflow_mul-at : goal.overflow_mul-at
+overflow_mul-at c = omega (arith, room c, (start c).well-formed)
+
+pub offset_bounds-store-at : goal.offset_bounds-store-at
+offset_bounds-store-at c = omega (arith, room c, (start c).well-formed)
+
+pub slice_bounds-fill_one-count : goal.slice_bounds-fill_one-count
+slice_bounds-fill_one-count c = omega (arith, room c)
+
+pub slice_bounds-fill_one-start : goal.slice_bounds-fill_one-start
+slice_bounds-fill_one-start c = omega (arith, room c)
+
+pub slice_bounds-fill_one-end : goal.slice_bounds-fill_one-end
+slice_bounds-fill_one-end c = omega (arith, room c)

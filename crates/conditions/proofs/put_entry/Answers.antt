@@ -1,0 +1,34 @@
+use Prim.Native.Nat.{◌+◌, ◌-◌, ◌*◌, ◌<◌}
+use native.Mathlib.Omega.{arith}
+use lib.ListN.{length}
+use Rattle.conditions.proofs.EntryLaws.{entry_at, gather_none, gather-on, gather-start, put-end}
+use Rattle.conditions.proofs.put_entry.Goals as goal
+
+at : (c : goal.After-selected-x) → c.args.c * c.args.w + c.loop-k.k < length c.loop-k.cw
+at c = let p = c.requires in entry_at c.loop-k.invariant.words p.2 p.4 c.loop-k-test.true
+
+pub loop-k-preserved : goal.loop-k-preserved
+loop-k-preserved c =
+    let p = c.requires in
+    gather-on c.loop-k.invariant _ c.loop-k-test.true p.2 p.4 c.selected-x.ensures
+
+pub returns : goal.returns
+returns c =
+    let s = c.loop-k.invariant in
+    let h = c.requires.4 in
+    let g = c.loop-k-test.false in record { put = put-end s.words (omega arith) h; t_after = gather_none s (omega arith) h }
+
+pub loop-k-init : goal.loop-k-init
+loop-k-init c = gather-start
+
+pub overflow_mul-cw : goal.overflow_mul-cw
+overflow_mul-cw c = (let h = at c in omega arith)
+
+pub overflow_add-cw : goal.overflow_add-cw
+overflow_add-cw c = (let h = at c in omega arith)
+
+pub offset_bounds-cw-c : goal.offset_bounds-cw-c
+offset_bounds-cw-c c = (let h = at c in omega arith)
+
+pub shape_of-cw : goal.shape_of-cw
+shape_of-cw c = c.loop-k.invariant.words.long

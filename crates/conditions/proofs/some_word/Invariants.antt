@@ -1,0 +1,10 @@
+-- `some_word` meets its contract: acc has the types that are in an entry of r that was gone through. Assumes nothing.
+use Rattle.truth.specs.Blocks.{has}
+use Rattle.truth.proofs.Joining.{Joining}
+use Rattle.conditions.proofs.some_word.Given as goal
+
+abbrev pub invariant-loop-rest : goal.invariant-loop-rest
+invariant-loop-rest l = Joining (has l.w l.cw) l.r l.k l.rest l.acc
+
+abbrev pub decreases-loop-rest : goal.decreases-loop-rest
+decreases-loop-rest l = l.rest

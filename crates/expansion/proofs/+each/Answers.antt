@@ -1,0 +1,67 @@
+use mathlib.Core.Path.{refl}
+use native.Mathlib.Omega.{arith}
+use Rattle.members.proofs.ModeListLaws.{mode-below, half-below}
+use Rattle.members.proofs.StepLaws.{was-added, ready-then}
+use Rattle.expansion.proofs.EachLaws.{each-skip, each_last, each-full, each-full-2, each-join}
+use Rattle.expansion.proofs.+each.Goals as goal
+
+pub overflow_add-m : goal.overflow_add-m
+overflow_add-m t c =
+    let m = mode-below _ _ c.requires.1.1.0 c.requires.1.1.1.0 c.requires.1.1.1.1 in omega arith
+
+pub each-requires : goal.each-requires
+each-requires t c =
+    let m = mode-below _ _ c.requires.1.1.0 c.requires.1.1.1.0 c.requires.1.1.1.1 in
+    (omega (arith, c.decreases, c.requires.1.1.1.0), (c.requires.0, (c.requires.1.0, (omega arith, (omega (arith, c.if-rest-eq0.true, c.requires.1.1.1.0), half-below _ _ m c.requires.1.1.1.1)))))
+
+pub returns-then-rest-eq0 : goal.returns-then-rest-eq0
+returns-then-rest-eq0 t c =
+    each-skip _ _ _ _ _ _ (mode-below _ _ c.requires.1.1.0 c.requires.1.1.1.0 c.requires.1.1.1.1) c.if-rest-eq0.true c.each.ensures
+
+pub bit-requires : goal.bit-requires
+bit-requires t c =
+    mode-below _ _ c.requires.1.1.0 c.requires.1.1.1.0 c.requires.1.1.1.1
+
+pub next_one-requires : goal.next_one-requires
+next_one-requires t c =
+    (c.requires.0, (c.bit.ensures.1, c.requires.1.0))
+
+pub returns-then-rest-eq1 : goal.returns-then-rest-eq1
+returns-then-rest-eq1 t c =
+    each_last _ _ _ _ _ _ _ (mode-below _ _ c.requires.1.1.0 c.requires.1.1.1.0 c.requires.1.1.1.1) c.if-rest-eq1.true c.bit.ensures.0 c.next_one.ensures
+
+pub overflow_add-m-2 : goal.overflow_add-m-2
+overflow_add-m-2 t c =
+    let m = mode-below _ _ c.requires.1.1.0 c.requires.1.1.1.0 c.requires.1.1.1.1 in omega arith
+
+pub each-requires-2 : goal.each-requires-2
+each-requires-2 t c =
+    let m = mode-below _ _ c.requires.1.1.0 c.requires.1.1.1.0 c.requires.1.1.1.1 in
+    (omega (arith, c.decreases, c.requires.1.1.1.0), (c.requires.0, (c.requires.1.0, (omega arith, (omega (arith, c.if-rest-eq0.false, c.if-rest-eq1.false, c.requires.1.1.1.0), half-below _ _ m c.requires.1.1.1.1)))))
+
+pub returns-in_default : goal.returns-in_default
+returns-in_default t c =
+    each-full _ _ _ _ _ _ (mode-below _ _ c.requires.1.1.0 c.requires.1.1.1.0 c.requires.1.1.1.1) (omega (arith, c.if-rest-eq0.false)) (omega (arith, c.if-rest-eq0.false, c.if-rest-eq1.false, c.requires.1.1.1.0)) c.requires.1.1.1.1 c.each-2.ensures c.in_default.is
+
+pub bit-requires-2 : goal.bit-requires-2
+bit-requires-2 t c =
+    mode-below _ _ c.requires.1.1.0 c.requires.1.1.1.0 c.requires.1.1.1.1
+
+pub next_one-requires-2 : goal.next_one-requires-2
+next_one-requires-2 t c =
+    let d = was-added c.each-2.ensures c.in-At.is in
+    (ready-then c.requires.0 d c.each-2.auto.0, (c.bit-2.ensures.1, omega (arith, d.up, c.requires.1.0)))
+
+pub returns-in_default-next_one : goal.returns-in_default-next_one
+returns-in_default-next_one t c =
+    each-full-2 _ _ _ _ _ _ (mode-below _ _ c.requires.1.1.0 c.requires.1.1.1.0 c.requires.1.1.1.1) (omega (arith, c.if-rest-eq0.false)) (omega (arith, c.if-rest-eq0.false, c.if-rest-eq1.false, c.requires.1.1.1.0)) c.requires.1.1.1.1 c.requires.0 (was-added c.each-2.ensures c.in-At.is) c.each-2.auto.0 _ _ c.bit-2.ensures.0 c.requires.1.0 refl c.next_one-2.ensures c.in_default-next_one.is
+
+pub join-requires : goal.join-requires
+join-requires t c =
+    let d = was-added c.each-2.ensures c.in-At.is in
+    let e = was-added c.next_one-2.ensures c.in-At-next_one.is in
+    (ready-then (ready-then c.requires.0 d c.each-2.auto.0) e c.next_one-2.auto.0, (e.below, omega (arith, d.below, e.up)))
+
+pub returns : goal.returns
+returns t c =
+    each-join _ _ _ _ _ _ (mode-below _ _ c.requires.1.1.0 c.requires.1.1.1.0 c.requires.1.1.1.1) (omega (arith, c.if-rest-eq0.false)) (omega (arith, c.if-rest-eq0.false, c.if-rest-eq1.false, c.requires.1.1.1.0)) c.requires.1.1.1.1 c.requires.0 (was-added c.each-2.ensures c.in-At.is) c.each-2.auto.0 _ _ c.bit-2.ensures.0 c.requires.1.0 refl (was-added c.next_one-2.ensures c.in-At-next_one.is) c.next_one-2.auto.0 c.join.ensures

@@ -1,0 +1,18 @@
+-- `closure::joins` meets its contract: by the laws of StrongLaws. Assumes nothing.
+use native.Mathlib.Omega.{arith}
+use Rattle.members.proofs.StepLaws.{was-added, ready-then}
+use Rattle.expansion.proofs.StrongLaws.{joins-full, joins-last}
+use Rattle.expansion.proofs.joins.Goals as goal
+
+pub returns-in_default : goal.returns-in_default
+returns-in_default c =
+    joins-full _ _ c.requires.0 c.args.some c.args.left c.args.right c.args.x c.requires.1.0 c.requires.1.1.0 c.join.ensures c.in_default.is
+
+pub join-requires-2 : goal.join-requires-2
+join-requires-2 c =
+    let d = was-added c.join.ensures c.in-At.is in
+    (ready-then c.requires.0 d c.join.auto.0, (omega (arith, d.up, c.requires.1.1.0), d.below))
+
+pub returns : goal.returns
+returns c =
+    joins-last _ _ c.requires.0 c.args.some c.args.left c.args.right c.args.x c.requires.1.0 c.requires.1.1.0 (was-added c.join.ensures c.in-At.is) c.join.auto.0 c.join-2.ensures

@@ -1,0 +1,39 @@
+-- `closure::step` meets its contract: by the laws of StrongLaws. Assumes nothing.
+use native.Mathlib.Omega.{arith}
+use Rattle.members.proofs.StepLaws.{step_then}
+use Rattle.expansion.proofs.StrongLaws.{step-full, step-full-2, step-full-3, step-last}
+use Rattle.expansion.proofs.step.Goals as goal
+
+pub returns-in_default : goal.returns-in_default
+returns-in_default c =
+    step-full _ _ c.requires.0 c.args.some c.args.mask c.args.whole c.requires.1.1 c.unit.ensures c.in_default.is
+
+pub next-requires : goal.next-requires
+next-requires c =
+    let s = step_then c.requires.0 c.unit.ensures c.in-At.is c.unit.auto.0 in
+    (s.ready, (c.requires.1.0, s.below))
+
+pub returns-in_default-next : goal.returns-in_default-next
+returns-in_default-next c =
+    step-full-2 _ _ c.requires.0 c.args.some c.args.mask c.args.whole c.requires.1.1 c.unit.ensures c.in-At.is c.unit.auto.0 c.next.ensures c.in_default-next.is
+
+pub next-requires-2 : goal.next-requires-2
+next-requires-2 c =
+    let s = step_then c.requires.0 c.unit.ensures c.in-At.is c.unit.auto.0 in
+    let t = step_then s.ready c.next.ensures c.in-At-next.is c.next.auto.0 in
+    (t.ready, (c.requires.1.0, omega (arith, s.up, t.up, c.requires.1.1)))
+
+pub returns-in_default-next-2 : goal.returns-in_default-next-2
+returns-in_default-next-2 c =
+    step-full-3 _ _ c.requires.0 c.args.some c.args.mask c.args.whole c.requires.1.1 c.unit.ensures c.in-At.is c.unit.auto.0 c.next.ensures c.in-At-next.is c.next.auto.0 c.next-2.ensures c.in_default-next-2.is
+
+pub join-requires : goal.join-requires
+join-requires c =
+    let s = step_then c.requires.0 c.unit.ensures c.in-At.is c.unit.auto.0 in
+    let t = step_then s.ready c.next.ensures c.in-At-next.is c.next.auto.0 in
+    let u = step_then t.ready c.next-2.ensures c.in-At-next-2.is c.next-2.auto.0 in
+    (u.ready, (omega (arith, t.below, u.up), u.below))
+
+pub returns : goal.returns
+returns c =
+    step-last _ _ c.requires.0 c.args.some c.args.mask c.args.whole c.requires.1.1 c.unit.ensures c.in-At.is c.unit.auto.0 c.next.ensures c.in-At-next.is c.next.auto.0 c.next-2.ensures c.in-At-next-2.is c.next-2.auto.0 c.join.ensures

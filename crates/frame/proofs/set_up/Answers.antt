@@ -1,0 +1,51 @@
+-- `set_up` meets its contract: a refusal, or the frame of what was read. Assumes nothing.
+use denote.Struct.Field.{u64-field, u8-field, usize-field}
+use mathlib.Core.Path.{refl, sym}
+use lib.Seq.{length-take-le}
+use borrow.Author.Rules.{length_unmapped}
+use Rattle.frame.proofs.SetUpLaws.{count-within, formulas-within, frame-asked, setup-accepted, setup-refused, symbols-within, width-within}
+use Rattle.frame.proofs.set_up.Goals as goal
+
+pub returns-then-k-ne0 : goal.returns-then-k-ne0
+returns-then-k-ne0 c =
+    setup-refused c.read-reading.ensures c.number-k.ensures c.if-k-ne0.true c.nothing.ensures
+
+pub slice_bounds-members-end : goal.slice_bounds-members-end
+slice_bounds-members-end c =
+    count-within c.read-reading.ensures c.number-k.ensures c.if-k-ne0.false
+
+pub slice_bounds-frame_of-end : goal.slice_bounds-frame_of-end
+slice_bounds-frame_of-end c =
+    sym (length-take-le _ _ (count-within c.read-reading.ensures c.number-k.ensures c.if-k-ne0.false))
+
+pub slice_bounds-lean-end : goal.slice_bounds-lean-end
+slice_bounds-lean-end c =
+    width-within c.read-reading.ensures c.number-k.ensures c.if-k-ne0.false
+
+pub slice_bounds-frame_of-end-2 : goal.slice_bounds-frame_of-end-2
+slice_bounds-frame_of-end-2 c =
+    sym (length-take-le _ _ (width-within c.read-reading.ensures c.number-k.ensures c.if-k-ne0.false))
+
+pub slice_bounds-kinds-end : goal.slice_bounds-kinds-end
+slice_bounds-kinds-end c =
+    symbols-within c.read-reading.ensures c.number-k.ensures c.if-k-ne0.false (length_unmapped u64-field.Value c.read-reading.result.words 8 c.read-reading.type-inv.1.1.1.1.0.1.0.1) (length_unmapped u8-field.Value c.read-reading.result.kinds 8 c.read-reading.type-inv.1.1.1.1.1.0.1.0.1)
+
+pub slice_bounds-frame_of-end-3 : goal.slice_bounds-frame_of-end-3
+slice_bounds-frame_of-end-3 c =
+    sym (length-take-le _ _ (symbols-within c.read-reading.ensures c.number-k.ensures c.if-k-ne0.false (length_unmapped u64-field.Value c.read-reading.result.words 8 c.read-reading.type-inv.1.1.1.1.0.1.0.1) (length_unmapped u8-field.Value c.read-reading.result.kinds 8 c.read-reading.type-inv.1.1.1.1.1.0.1.0.1)))
+
+pub slice_bounds-places-end : goal.slice_bounds-places-end
+slice_bounds-places-end c =
+    formulas-within c.read-reading.ensures c.number-k.ensures c.if-k-ne0.false (length_unmapped usize-field.Value c.read-reading.result.places 5 c.read-reading.type-inv.1.1.1.1.1.1.1.0.1.0.1)
+
+pub slice_bounds-frame_of-end-4 : goal.slice_bounds-frame_of-end-4
+slice_bounds-frame_of-end-4 c =
+    sym (length-take-le _ _ (formulas-within c.read-reading.ensures c.number-k.ensures c.if-k-ne0.false (length_unmapped usize-field.Value c.read-reading.result.places 5 c.read-reading.type-inv.1.1.1.1.1.1.1.0.1.0.1)))
+
+pub frame_of-f-requires : goal.frame_of-f-requires
+frame_of-f-requires c =
+    frame-asked c.read-reading.ensures c.number-k.ensures c.if-k-ne0.false (length_unmapped usize-field.Value c.read-reading.result.places 5 c.read-reading.type-inv.1.1.1.1.1.1.1.0.1.0.1) refl refl refl
+
+pub returns : goal.returns
+returns c =
+    setup-accepted c.read-reading.ensures c.number-k.ensures c.if-k-ne0.false (length_unmapped usize-field.Value c.read-reading.result.places 5 c.read-reading.type-inv.1.1.1.1.1.1.1.0.1.0.1) c.frame_of-f.ensures c.frame_of-f.auto.1.1.1.1.0 c.frame_of-f.auto.1.1.1.1.1.0 c.frame_of-f.auto.1.1.1.1.1.1.0

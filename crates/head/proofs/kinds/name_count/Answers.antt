@@ -1,0 +1,28 @@
+use native.Mathlib.Omega.{arith}
+use Rattle.head.proofs.WordLaws.{count-name, skip-name, end-name}
+use Prim.Native.Nat.{◌-◌}
+use mathlib.Core.Logic.{⊎_elim}
+use Rattle.head.proofs.kinds.name_count.Goals as goal
+
+pub loop-i-init : goal.loop-i-init
+loop-i-init c = (omega arith, (omega arith, omega arith))
+
+pub bounds-ks-i : goal.bounds-ks-i
+bounds-ks-i c = omega arith
+
+pub overflow_add-n : goal.overflow_add-n
+overflow_add-n c = omega arith
+
+pub overflow_add-i : goal.overflow_add-i
+overflow_add-i c = omega arith
+
+pub loop-i-smaller : goal.loop-i-smaller
+loop-i-smaller c = omega arith
+
+pub loop-i-preserved : goal.loop-i-preserved
+loop-i-preserved c =
+    ⊎_elim (λ w. omega (arith, count-name c.args.ks.now c.loop-i.i c.loop-i-test.true w.0.taken)) (λ w. omega (arith, skip-name c.args.ks.now c.loop-i.i c.loop-i-test.true w.0.left)) c.if-ks-i-eq2.branch
+
+pub returns : goal.returns
+returns c =
+    omega (arith, end-name c.args.ks.now c.loop-i.i c.loop-i-test.false)

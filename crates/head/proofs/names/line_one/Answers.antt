@@ -1,0 +1,12 @@
+-- `names::line_one` meets its contract. Assumes nothing.
+use native.Mathlib.Omega.{arith}
+use Rattle.head.proofs.HeadLaws.{line_first}
+use Rattle.head.specs.Head.{NamesRead}
+use Prim.Native.Nat.{ℕ}
+use mathlib.Core.List.{List}
+use mathlib.Core.Path.{subst}
+use Rattle.head.proofs.names.line_one.Goals as goal
+
+pub returns : goal.returns
+returns c =
+    subst (λ (l : List ℕ). NamesRead l c.read_names.result) (line_first _ _ _ c.end_of-e.ensures.0 (omega arith) c.end_of-e.ensures.1.1) c.read_names.ensures

@@ -1,0 +1,23 @@
+-- `pass_word` meets its contract. Assumes nothing.
+use mathlib.Core.Path.{◌≡◌, sym, ap}
+use mathlib.Core.Bool.{Bool, true, false}
+use mathlib.Core.List.{List}
+use Prim.Native.Nat.{ℕ}
+use Rattle.truth.proofs.BlockLaws.{word-as}
+use Rattle.conditions.specs.Entries.{in_some}
+use Rattle.image.specs.Narrowing.{not_all, passing}
+use Rattle.image.proofs.narrowing.pass_word.Goals as goal
+
+lacking : (w : ℕ) (cw : List ℕ) (r u : ℕ) {lack : Bool} → lack ≡ true → not_all w cw r u ≡ passing w cw r lack u
+unfolding passing
+lacking w cw r u e = sym (ap (λ b. passing w cw r b u) e)
+
+having : (w : ℕ) (cw : List ℕ) (r u : ℕ) {lack : Bool} → lack ≡ false → in_some w cw r u ≡ passing w cw r lack u
+unfolding passing
+having w cw r u e = sym (ap (λ b. passing w cw r b u) e)
+
+pub returns-then-lack : goal.returns-then-lack
+returns-then-lack c = word-as (λ u. lacking _ _ _ u c.if-lack.true) c.lack_word.ensures
+
+pub returns : goal.returns
+returns c = word-as (λ u. having _ _ _ u c.if-lack.false) c.some_word.ensures

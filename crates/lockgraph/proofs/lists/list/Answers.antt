@@ -1,0 +1,6 @@
+-- `list` meets its contract: its limits are the usual ones. Assumes nothing.
+use mathlib.Core.Path.{sym}
+use Rattle.lockgraph.proofs.lists.list.Goals as goal
+
+pub returns : goal.returns
+returns c = rw (sym c.usual_limits.ensures) c.list_within.ensures

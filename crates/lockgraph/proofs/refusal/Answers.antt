@@ -1,0 +1,6 @@
+-- `refusal` meets its contract: its limits are the usual ones. Assumes nothing.
+use mathlib.Core.Path.{sym}
+use Rattle.lockgraph.proofs.refusal.Goals as goal
+
+pub returns : goal.returns
+returns c = rw (sym c.usual_limits.ensures) c.refusal_within.ensures

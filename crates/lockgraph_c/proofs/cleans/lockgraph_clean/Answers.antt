@@ -1,0 +1,6 @@
+-- `lockgraph_clean` meets its contract: its limits are the usual ones. Assumes nothing.
+use mathlib.Core.Path.{sym}
+use Rattle.lockgraph_c.proofs.cleans.lockgraph_clean.Goals as goal
+
+pub returns : goal.returns
+returns c = rw (sym c.usual_limits-l.ensures) c.lockgraph_clean_within.ensures

@@ -1,0 +1,6 @@
+-- `lockgraph_list` meets its contract: its limits are the usual ones. Assumes nothing.
+use mathlib.Core.Path.{sym}
+use Rattle.lockgraph_c.proofs.lists.lockgraph_list.Goals as goal
+
+pub returns : goal.returns
+returns c = rw (sym c.usual_limits-l.ensures) c.lockgraph_list_within.ensures

@@ -1,0 +1,6 @@
+-- `lockgraph_verdict` meets its contract: its limits are the usual ones. Assumes nothing.
+use mathlib.Core.Path.{sym}
+use Rattle.lockgraph_c.proofs.verdicts.lockgraph_verdict.Goals as goal
+
+pub returns : goal.returns
+returns c = rw (sym c.usual_limits-l.ensures) c.lockgraph_verdict_within.ensures

@@ -1,0 +1,26 @@
+-- `refused` meets its contract. Assumes nothing.
+use mathlib.Core.Path.{ap, sym, ◌∙◌}
+use mathlib.Core.List.{◌++◌}
+use native.Mathlib.Omega.{arith}
+use lib.ListN.{take}
+use lib.Seq.{length-take-le}
+use Rattle.buffer.proofs.PutLaws.{put_front}
+use Rattle.report.specs.Text.{lines_of, up_to}
+use Rattle.report.proofs.TextLaws.{refused-count, refused-text}
+use Rattle.report.proofs.refused.Goals as goal
+
+pub slice_bounds-write_lines-end : goal.slice_bounds-write_lines-end
+slice_bounds-write_lines-end c =
+    let r = c.put_refused-n.ensures.upper_bound in
+    let k = c.put_refused-n.auto.0 in
+    sym (length-take-le _ _ (omega arith))
+
+pub write_lines-requires : goal.write_lines-requires
+write_lines-requires c =
+    let p = c.requires in
+    ap (λ k. up_to k (lines_of c.args.l c.args.sheet.now c.args.newline.now) ++ take c.put_refused-n.result c.put_refused-n.new.out) p.0 ∙ put_front (omega arith) c.put_refused-n.ensures.put ∙ sym (refused-text _ _ _ _ p.1.0 p.1.1.0)
+
+pub returns : goal.returns
+returns c =
+    let p = c.requires in
+    c.write_lines.ensures ∙ refused-count _ _ _ _ p.1.0 p.1.1.0

@@ -1,0 +1,62 @@
+use mathlib.Core.Path.{◌∙◌}
+use Prim.Native.Nat.{◌-◌}
+use native.Mathlib.Omega.{arith}
+use Rattle.start.proofs.NamedNumbers.{type-lt}
+use Rattle.start.proofs.Starting.{started-all, started-first, started-on}
+use Rattle.start.proofs.start_words.Goals as goal
+
+pub copy-requires : goal.copy-requires
+copy-requires c =
+    let p = c.requires in
+    (p.1.1.1.1, (let h = p.1.1.1.0 in omega arith))
+
+pub loop-i-init : goal.loop-i-init
+loop-i-init c =
+    let a = c.args in
+    started-first a.w a.base.now a.names.now a.n a.r (let k = c.copy.auto.0 in let h = c.requires.1.1.1.1 in omega arith) _ c.requires.1.1.1.1 c.copy.ensures
+
+pub overflow_cast-names : goal.overflow_cast-names
+overflow_cast-names c = omega (arith, c.type_inv.names c.loop-i.i)
+
+pub named_type-t-requires : goal.named_type-t-requires
+named_type-t-requires c =
+    let p = c.requires.0 in
+    let t = c.loop-i-test.true in
+    (p.within _ t, (p.narrow, (let f = p.few in omega arith)))
+
+pub add_type-requires : goal.add_type-requires
+add_type-requires c =
+    let p = c.requires in
+    let a = c.args in (
+      p.0,
+      (
+        p.1.1.0,
+        (
+          p.1.1.1.0,
+          (
+            (let e = c.loop-i.invariant.long in let k = c.copy.auto.0 in let h = p.1.1.1.1 in omega arith),
+            (let e = c.named_type-t.ensures in let l = type-lt _ a.n a.r c.loop-i.i (p.0.within _ c.loop-i-test.true) p.0.narrow in let h = p.1.0 in omega arith),
+          ),
+        ),
+      ),
+    )
+
+pub overflow_add-i : goal.overflow_add-i
+overflow_add-i c = let l = c.loop-i-test.true in omega arith
+
+pub loop-i-smaller : goal.loop-i-smaller
+loop-i-smaller c = let l = c.loop-i-test.true in omega arith
+
+pub loop-i-preserved : goal.loop-i-preserved
+loop-i-preserved c =
+    let a = c.args in
+    started-on a.w a.base.now a.names.now a.n a.r (let k = c.copy.auto.0 in let h = c.requires.1.1.1.1 in omega arith) c.loop-i.invariant c.loop-i-test.true c.add_type.auto.1.1.1.1.1.1.0
+    c.named_type-t.ensures c.add_type.ensures
+
+pub shape_of-dst : goal.shape_of-dst
+shape_of-dst c = c.loop-i.invariant.long ∙ c.copy.auto.0
+
+pub returns : goal.returns
+returns c =
+    let a = c.args in
+    started-all a.w a.base.now a.names.now a.n a.r (let k = c.copy.auto.0 in let h = c.requires.1.1.1.1 in omega arith) c.loop-i.invariant c.loop-i-test.false _ c.requires.1.1.1.1 c.copy.ensures

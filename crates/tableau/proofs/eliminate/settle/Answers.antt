@@ -1,0 +1,64 @@
+use mathlib.Core.Path.{refl, ◌∙◌}
+use native.Mathlib.Omega.{arith}
+use borrow.Author.Rules.{rules}
+use Rattle.tableau.proofs.Settling.{before-start, count-now, fewer, settled, turned}
+use Rattle.tableau.proofs.eliminate.settle.Goals as goal
+
+pub loop-w-init : goal.loop-w-init
+loop-w-init c =
+    record { long = refl; long-second = refl; long-copy = refl; long-todo = refl; long-v = refl; long_rest = refl; is = λ ms ln r. before-start c.requires.w_in_bounds.0 c.requires.w_in_bounds.1 (λ k l. (c.type_inv.first k).fits) }
+
+pub round-requires : goal.round-requires
+round-requires c = let p = (let r = c.requires.made.2 in let ms = c.requires.made.0 in let ln = c.requires.made.1 in let b = c.loop-w.invariant.is ms ln r in (c.requires.made, ((let l = b.long in let h = c.requires.w_in_bounds.0 in omega arith), (let l = b.long' in let h = c.requires.w_in_bounds.1 in omega arith), (let l = c.loop-w.invariant.long-copy in let h = c.requires.w_in_bounds.2 in omega arith), (let l = c.loop-w.invariant.long-todo in let h = c.requires.w_in_bounds.3 in omega arith), (let l = c.loop-w.invariant.long-v in let h = c.requires.w_in_bounds.4 in omega arith), (let l = c.loop-w.invariant.long_rest in let h = c.requires.w_in_bounds.5 in omega arith)))) in record { made = p.0; w_in_bounds = p.1 }
+
+pub returns-then-round : goal.returns-then-round
+returns-then-round c =
+    ((λ ms ln r. (settled (c.loop-w.invariant.is ms ln r) _ (c.round.ensures.by_index ms ln r) _ c.round.ensures.value c.if-round.true).0), ((λ ms ln r. (settled (c.loop-w.invariant.is ms ln r) _ (c.round.ensures.by_index ms ln r) _ c.round.ensures.value c.if-round.true).1), (λ ms ln r. (settled (c.loop-w.invariant.is ms ln r) _ (c.round.ensures.by_index ms ln r) _ c.round.ensures.value c.if-round.true).2)))
+
+pub overflow_add-n : goal.overflow_add-n
+overflow_add-n c =
+    (let r = c.requires.made.2 in let ms = c.requires.made.0 in let ln = c.requires.made.1 in let b = c.loop-w.invariant.is ms ln r in let h = b.bound in let f = fewer b _ (c.round.ensures.by_index ms ln r) _ c.round.ensures.value c.if-round.false in let s = r.small in omega arith)
+
+pub round-requires-in-loop-w : goal.round-requires-in-loop-w
+round-requires-in-loop-w c =
+    (let r = c.requires.made.2 in let ms = c.requires.made.0 in let ln = c.requires.made.1 in let b = c.loop-w.invariant.is ms ln r in (c.requires.made, ((let l = b.long' in let h = c.requires.w_in_bounds.1 in let k = c.round.auto.1.1.1.1.1.0 in omega arith), (let l = b.long in let h = c.requires.w_in_bounds.0 in omega arith), (let l = c.loop-w.invariant.long-copy in let h = c.requires.w_in_bounds.2 in let k = c.round.auto.1.1.1.1.1.1.0 in omega arith), (let l = c.loop-w.invariant.long-todo in let h = c.requires.w_in_bounds.3 in let k = c.round.auto.1.1.1.1.1.1.1.0 in omega arith), (let l = c.loop-w.invariant.long-v in let h = c.requires.w_in_bounds.4 in let k = c.round.auto.1.1.1.1.1.1.1.1.0 in omega arith), (let l = c.loop-w.invariant.long_rest in let h = c.requires.w_in_bounds.5 in let k = c.round.auto.1.1.1.1.1.1.1.1.1.0 in omega arith))))
+
+pub shape_of-first-then-round-2 : goal.shape_of-first-then-round-2
+shape_of-first-then-round-2 c =
+    c.round-in-loop-w.auto.1.1.1.1.1.0 ∙ (c.loop-w.invariant.is _ _ c.requires.made.2).long
+
+pub shape_of-second-then-round-2 : goal.shape_of-second-then-round-2
+shape_of-second-then-round-2 c =
+    c.round.auto.1.1.1.1.1.0 ∙ (c.loop-w.invariant.is _ _ c.requires.made.2).long'
+
+pub shape_of-copy-then-round-2 : goal.shape_of-copy-then-round-2
+shape_of-copy-then-round-2 c =
+    c.round-in-loop-w.auto.1.1.1.1.1.1.0 ∙ c.round.auto.1.1.1.1.1.1.0 ∙ c.loop-w.invariant.long-copy
+
+pub shape_of-todo-then-round-2 : goal.shape_of-todo-then-round-2
+shape_of-todo-then-round-2 c =
+    c.round-in-loop-w.auto.1.1.1.1.1.1.1.0 ∙ c.round.auto.1.1.1.1.1.1.1.0 ∙ c.loop-w.invariant.long-todo
+
+pub shape_of-v-then-round-2 : goal.shape_of-v-then-round-2
+shape_of-v-then-round-2 c =
+    c.round-in-loop-w.auto.1.1.1.1.1.1.1.1.0 ∙ c.round.auto.1.1.1.1.1.1.1.1.0 ∙ c.loop-w.invariant.long-v
+
+pub shape_of-rest-then-round-2 : goal.shape_of-rest-then-round-2
+shape_of-rest-then-round-2 c =
+    c.round-in-loop-w.auto.1.1.1.1.1.1.1.1.1.0 ∙ c.round.auto.1.1.1.1.1.1.1.1.1.0 ∙ c.loop-w.invariant.long_rest
+
+pub returns-then-round-2 : goal.returns-then-round-2
+returns-then-round-2 c =
+    ((λ ms ln r. (settled (turned (c.loop-w.invariant.is ms ln r) _ (c.round.ensures.by_index ms ln r) _ c.round.ensures.value c.if-round.false) _ (c.round-in-loop-w.ensures.by_index ms ln r) _ c.round-in-loop-w.ensures.value c.if-round-2.true).0), ((λ ms ln r. (settled (turned (c.loop-w.invariant.is ms ln r) _ (c.round.ensures.by_index ms ln r) _ c.round.ensures.value c.if-round.false) _ (c.round-in-loop-w.ensures.by_index ms ln r) _ c.round-in-loop-w.ensures.value c.if-round-2.true).2), (λ ms ln r. (settled (turned (c.loop-w.invariant.is ms ln r) _ (c.round.ensures.by_index ms ln r) _ c.round.ensures.value c.if-round.false) _ (c.round-in-loop-w.ensures.by_index ms ln r) _ c.round-in-loop-w.ensures.value c.if-round-2.true).1)))
+
+pub overflow_add-n-in-loop-w : goal.overflow_add-n-in-loop-w
+overflow_add-n-in-loop-w c =
+    (let r = c.requires.made.2 in let ms = c.requires.made.0 in let ln = c.requires.made.1 in let b = (turned (c.loop-w.invariant.is ms ln r) _ (c.round.ensures.by_index ms ln r) _ c.round.ensures.value c.if-round.false) in let h = b.bound in let f = fewer b _ (c.round-in-loop-w.ensures.by_index ms ln r) _ c.round-in-loop-w.ensures.value c.if-round-2.false in let s = r.small in omega arith)
+
+pub loop-w-smaller : goal.loop-w-smaller
+loop-w-smaller c =
+    (let r = c.requires.made.2 in let ms = c.requires.made.0 in let ln = c.requires.made.1 in let a = c.loop-w.invariant.is ms ln r in let b = (turned a _ (c.round.ensures.by_index ms ln r) _ c.round.ensures.value c.if-round.false) in let f = fewer a _ (c.round.ensures.by_index ms ln r) _ c.round.ensures.value c.if-round.false in let g = fewer b _ (c.round-in-loop-w.ensures.by_index ms ln r) _ c.round-in-loop-w.ensures.value c.if-round-2.false in let x = count-now a in let y = count-now (turned b _ (c.round-in-loop-w.ensures.by_index ms ln r) _ c.round-in-loop-w.ensures.value c.if-round-2.false) in omega arith)
+
+pub loop-w-preserved : goal.loop-w-preserved
+loop-w-preserved c =
+    record { long = search rules; long-second = search rules; long-copy = search rules; long-todo = search rules; long-v = search rules; long_rest = search rules; is = λ ms ln r. turned (turned (c.loop-w.invariant.is ms ln r) _ (c.round.ensures.by_index ms ln r) _ c.round.ensures.value c.if-round.false) _ (c.round-in-loop-w.ensures.by_index ms ln r) _ c.round-in-loop-w.ensures.value c.if-round-2.false }

@@ -1,0 +1,12 @@
+-- `settle` meets its contract: before a turn the first store holds family n, and the families before it all differ. Assumes nothing.
+use Prim.Native.Nat.{◌*◌}
+use Rattle.wordset.specs.Below.{count_below}
+use Rattle.wordset.specs.Words.{member}
+use Rattle.tableau.proofs.Settling.{Settles}
+use Rattle.tableau.proofs.eliminate.settle.Given as goal
+
+abbrev pub invariant-loop-w : goal.invariant-loop-w
+invariant-loop-w l = Settles l.w l.tw l.cw l.ns l.initial.first l.initial.second l.initial.copy l.initial.todo l.initial.v l.initial.rest l.first l.second l.copy l.todo l.v l.rest l.n
+
+abbrev pub decreases-loop-w : goal.decreases-loop-w
+decreases-loop-w l = count_below (l.w * 64) (member l.first)

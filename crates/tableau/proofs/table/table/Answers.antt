@@ -1,0 +1,17 @@
+-- `table` meets its contract, by those of `start_words`, `settle` and `wordset::size`. Assumes nothing.
+use native.Mathlib.Omega.{arith}
+use lib.ListN.{length}
+use Rattle.tableau.proofs.TableWords.{table_is}
+use Rattle.tableau.proofs.table.table.Goals as goal
+
+pub settle-n-requires : goal.settle-n-requires
+settle-n-requires c =
+    ((c.args.ms.now, c.args.ln.now, c.requires.ready), ((let h = c.requires.w_in_bounds.0 in let k = c.start_words.auto.1.1.1.1.1.0 in omega arith), c.requires.w_in_bounds.1, c.requires.w_in_bounds.2, c.requires.w_in_bounds.3, c.requires.w_in_bounds.4, c.requires.w_in_bounds.5))
+
+pub size-l-requires : goal.size-l-requires
+size-l-requires c =
+    ((let h = c.requires.w_in_bounds.0 in let k = c.start_words.auto.1.1.1.1.1.0 in let j = c.settle-n.auto.1.1.1.1.0 in omega arith), (let s = c.requires.ready.small in omega arith))
+
+pub returns : goal.returns
+returns c =
+    table_is c.args.w c.args.base.now c.args.names.now (length c.args.ln.now) c.args.r c.args.first.now _ c.requires.w_in_bounds.0 c.start_words.ensures _ _ _ _ _ _ c.size-s.ensures c.size-l.ensures (c.settle-n.ensures.by_index _ _ c.requires.ready) (c.settle-n.ensures.by_index_2 _ _ c.requires.ready) (c.settle-n.ensures.by_index_3 _ _ c.requires.ready)

@@ -1,0 +1,20 @@
+-- `token::inner_at` meets its contract: what stands at the first byte that is no space, by the laws of Tokens. Assumes nothing.
+use mathlib.Core.Path.{sym, ◌∙◌}
+use native.Mathlib.Omega.{arith}
+use Rattle.token.specs.Token.{head_front, inner_at}
+use Rattle.token.proofs.Tokens.{past_end, from-capital, inner-plain, upper_is}
+use Rattle.token.proofs.inner_at.Goals as goal
+
+pub returns-then-s-i : goal.returns-then-s-i
+unfolding inner_at
+returns-then-s-i c = past_end head_front c.args.s.now c.args.at _ c.skip_spaces-i.ensures c.if-s-i.true
+
+pub head_capital-requires : goal.head_capital-requires
+head_capital-requires c = (omega arith, (upper_is _ (sym c.is_upper.ensures ∙ c.if-is_upper.true)).1)
+
+pub returns-then-is_upper : goal.returns-then-is_upper
+unfolding inner_at
+returns-then-is_upper c = from-capital head_front c.args.s.now c.args.at _ c.skip_spaces-i.ensures c.if-s-i.false (sym c.is_upper.ensures ∙ c.if-is_upper.true) c.head_capital.ensures
+
+pub returns : goal.returns
+returns c = inner-plain c.args.s.now c.args.at _ c.skip_spaces-i.ensures c.if-s-i.false (sym c.is_upper.ensures ∙ c.if-is_upper.false) c.token_at.ensures

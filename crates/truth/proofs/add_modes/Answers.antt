@@ -1,0 +1,43 @@
+use mathlib.Core.Path.{ap, ap₂, ◌∙◌}
+use native.Mathlib.Omega.{arith}
+use Rattle.ctl.specs.Types.{in_type}
+use Rattle.wordset.proofs.BitLaws.{shl_one}
+use Rattle.truth.specs.Truths.{nexts, place_of}
+use Rattle.truth.proofs.Adding.{adding-end, adding-low, adding-on, adding-start}
+use Rattle.truth.proofs.Sifting.{less-lt}
+use Rattle.truth.proofs.TruthLaws.{place-small}
+use Rattle.truth.proofs.add_modes.Goals as goal
+
+pub add_place-requires : goal.add_place-requires
+add_place-requires c =
+    let p = c.requires in
+    (omega arith, place-small p.0 _ _ _ c.find_place.ensures)
+
+pub loop-rest-preserved : goal.loop-rest-preserved
+loop-rest-preserved c =
+    let a = c.args in
+    let s = c.loop-rest.invariant in
+    let n = c.loop-rest-test.true in
+    let e = c.next_tag-g.ensures in
+    let l = adding-low s n in
+    adding-on s n c.find_place.result (λ t. ap (in_type t) (c.find_place.ensures ∙ ap₂ (λ g m. place_of a.ms.now a.ln.now g m a.b) e (shl_one _ (omega arith))))
+    c.add_place.auto.0 c.add_place.ensures
+
+pub returns : goal.returns
+unfolding nexts
+returns c = adding-end c.loop-rest.invariant c.loop-rest-test.false
+
+pub loop-rest-init : goal.loop-rest-init
+loop-rest-init c = adding-start c.arg-rest.ensures (omega arith)
+
+pub overflow_cast-m : goal.overflow_cast-m
+overflow_cast-m c = (let l = adding-low c.loop-rest.invariant c.loop-rest-test.true in omega arith)
+
+pub overflow_shl-m : goal.overflow_shl-m
+overflow_shl-m c = (let l = adding-low c.loop-rest.invariant c.loop-rest-test.true in omega arith)
+
+pub overflow_sub-rest : goal.overflow_sub-rest
+overflow_sub-rest c = (let n = c.loop-rest-test.true in omega arith)
+
+pub loop-rest-smaller : goal.loop-rest-smaller
+loop-rest-smaller c = less-lt _ c.loop-rest-test.true

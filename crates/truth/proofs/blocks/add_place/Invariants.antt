@@ -1,0 +1,16 @@
+-- `add_place` meets its contract: the first k words are done. Assumes nothing.
+use mathlib.Core.Bool.{Bool}
+use Prim.Native.Nat.{ℕ, ◌+◌, ◌-◌, ◌*◌}
+use lib.ListN.{get_or}
+use Rattle.ctl.specs.Types.{in_type}
+use Rattle.wordset.specs.Answers.{Answers}
+use Rattle.truth.specs.Blocks.{added}
+use Rattle.truth.proofs.Redoing.{Redoing}
+use Rattle.truth.proofs.blocks.add_place.Given as goal
+
+abbrev pub invariant-loop-k : goal.invariant-loop-k
+invariant-loop-k l =
+    Redoing (λ l x. (P : ℕ → Bool) → Answers P l (get_or l.initial.tw (l.i * l.w + l) 0) → Answers (λ t. added l.every (P t) (in_type t l.place)) l x) l.w l.i l.initial.tw l.tw l.k
+
+abbrev pub decreases-loop-k : goal.decreases-loop-k
+decreases-loop-k l = l.w - l.k
