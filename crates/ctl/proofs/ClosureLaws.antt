@@ -380,7 +380,7 @@ module _ (l : List Form) where
     expansion = λ p m. (within p m).expand-in;
   }
 
-  all_of : (k : List Form) {p : Form} → p ∈ k → p ∈ closure_all k
+  all_of : {p : Form} (k : List Form) → p ∈ k → p ∈ closure_all k
   unfolding closure_all
   all_of k (Memᴰ.head {x = q} {xs = r} e) = Memᴰ.cast e (Memᴰ.append_left (closure_all r) (self-of q))
   all_of k (Memᴰ.tail {x = q} {xs = r} m) = Memᴰ.append_right (closure_of q) (all_of r m)

@@ -61,7 +61,7 @@ count-more (suc n) f g h =
     go : (f 0 ≡ g 0) ⊎ (one (f 0) < one (g 0)) →
         ((i : ℕ) → i < n → f (suc i) ≡ g (suc i)) ⊎ (count n (λ i. f (suc i)) < count n (λ i. g (suc i))) →
         ((i : ℕ) → i < suc n → f i ≡ g i) ⊎ (one (f 0) + count n (λ i. f (suc i)) < one (g 0) + count n (λ i. g (suc i)))
-    go (inl e) (inl r) = inl (λ i. elim i [ zero ↦ λ k. e | suc j ↦ λ k. r j (le_of_suc-le-suc k) ])
+    go (inl e) (inl r) = inl (λ i. elim i as (λ m. m < suc n → f m ≡ g m) [ zero ↦ λ k. e | suc j ↦ λ k. r j (le_of_suc-le-suc k) ])
     go (inl e) (inr r) = inr (rw e (omega arith))
     go (inr l) (inl r) = inr (omega (arith, count_same n (λ i. f (suc i)) (λ i. g (suc i)) r))
     go (inr l) (inr r) = inr (omega arith)

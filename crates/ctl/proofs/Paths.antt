@@ -63,9 +63,9 @@ cons_node i node (suc k) = node k
 module _ {R : ℕ → ℕ → Type 0} where
   pub cons : {i j : ℕ} → R i j → MaxPath R j → MaxPath R i
   unfolding cons_node
-  cons {i} {j} r (infinite node s t) = infinite (cons_node i node) refl (λ k. elim k [ zero ↦ subst (R i) (sym s) r | suc m ↦ t m ])
+  cons {i} {j} r (infinite node s t) = infinite (cons_node i node) refl (λ k. elim k as (λ m. R (cons_node i node m) (cons_node i node (suc m))) [ zero ↦ subst (R i) (sym s) r | suc m ↦ t m ])
   cons {i} {j} r (finite last node s t e) =
-      finite (suc last) (cons_node i node) refl (λ k. elim k [ zero ↦ λ l. subst (R i) (sym s) r | suc m ↦ λ l. t m (le_of_suc-le-suc l) ]) e
+      finite (suc last) (cons_node i node) refl (λ k. elim k as (λ m. m < suc last → R (cons_node i node m) (cons_node i node (suc m))) [ zero ↦ λ l. subst (R i) (sym s) r | suc m ↦ λ l. t m (le_of_suc-le-suc l) ]) e
 
   module _ {P Q : ℕ → Type 0} where
     pub until-here : {i : ℕ} (π : MaxPath R i) → Q i → Until P Q π
@@ -78,7 +78,7 @@ module _ {R : ℕ → ℕ → Type 0} where
       u.1,
       u.2,
       u.3,
-      λ k. elim k [
+      λ k. elim k as (λ m. (j' : ℕ) → m < suc u.0 → At (cons r (infinite node s t)) m j' → P j') [
         | zero ↦ λ j' l a. subst P a h
         | suc m ↦ λ j' l a. u.4 m j' (le_of_suc-le-suc l) a
       ],
@@ -88,7 +88,7 @@ module _ {R : ℕ → ℕ → Type 0} where
       u.1,
       (suc-le-suc u.2.0, u.2.1),
       u.3,
-      λ k. elim k [
+      λ k. elim k as (λ m. (j' : ℕ) → m < suc u.0 → At (cons r (finite last node s t e)) m j' → P j') [
         | zero ↦ λ j' l a. subst P a.1 h
         | suc m ↦ λ j' l a. u.4 m j' (le_of_suc-le-suc l) (le_of_suc-le-suc a.0, a.1)
       ],
@@ -114,9 +114,9 @@ no_node o e f = let z : ◌≡◌ {A = ℕ} 0 1 = cc in omega arith
 
 cons_walk : {pick : ℕ → Option ℕ} (i j : ℕ) → pick i ≡ some j → Walk pick j → Walk pick i
 unfolding cons_node
-cons_walk i j f (endless node s t) = endless (cons_node i node) refl (λ k. elim k [ zero ↦ rw s f | suc m ↦ t m ])
-cons_walk i j f (ending last node s t e) =
-    ending (suc last) (cons_node i node) refl (λ k. elim k [ zero ↦ λ l. rw s f | suc m ↦ λ l. t m (le_of_suc-le-suc l) ]) e
+cons_walk {pick} i j f (endless node s t) = endless (cons_node i node) refl (λ k. elim k as (λ m. pick (cons_node i node m) ≡ some (cons_node i node (suc m))) [ zero ↦ rw s f | suc m ↦ t m ])
+cons_walk {pick} i j f (ending last node s t e) =
+    ending (suc last) (cons_node i node) refl (λ k. elim k as (λ m. m < suc last → pick (cons_node i node m) ≡ some (cons_node i node (suc m))) [ zero ↦ λ l. rw s f | suc m ↦ λ l. t m (le_of_suc-le-suc l) ]) e
 
 module _ (n : ℕ) (pick : ℕ → Option ℕ) (closed : (i j : ℕ) → pick i ≡ some j → j < n) where
   -- the nodes from which the walk ends, by rounds

@@ -108,6 +108,7 @@ line-free s k = part_free newline s k
 
 pub byte-right : (x : List ℕ) → byte_wrong x ≡ false → (c : ℕ) → Memᴰ c x → byte_right c ≡ true
 unfolding byte_wrong
+byte-right [] e c m = elim m [ ]
 byte-right (d ∷ r) e c m = let w = or-none (not (byte_right d)) (byte_wrong r) e in go (Memᴰ.cases_cons m) (not-false (byte_right d) w.0) (byte-right r w.1 c)
   where
     go : (c ≡ d) ⊎ Memᴰ c r → byte_right d ≡ true → (Memᴰ c r → byte_right c ≡ true) → byte_right c ≡ true
