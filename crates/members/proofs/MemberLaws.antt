@@ -214,7 +214,7 @@ module _ (ws : List ℕ) (ms : Members ws) where
       at : (a : List Form) (p : Form) (r : List Form) (k : ℕ) → length a ≡ k → get_or (a ++ (p ∷ r)) k tru ≡ p
       at a p r k e = subst (λ k. get_or (a ++ (p ∷ r)) k tru ≡ p) e (get_or-append_seam a p r tru)
 
-  pub index-of : (l : List Form) {p : Form} → p ∈ l → (i : ℕ) × (i < length l) × (p ≡ get_or l i tru)
+  pub index-of : {p : Form} (l : List Form) → p ∈ l → (i : ℕ) × (i < length l) × (p ≡ get_or l i tru)
   index-of l (Memᴰ.head {xs = r} e) = (0, omega arith, e)
   index-of l (Memᴰ.tail {xs = r} m) = let h = index-of r m in (suc h.0, (let k = h.1 in omega arith), h.2)
 

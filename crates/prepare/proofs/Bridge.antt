@@ -45,7 +45,7 @@ use Rattle.prepare.proofs.AuPlace.{au-next}
 
 -- ---- lists by their places
 
-form-place : (l : List Form) {p : Form} → p ∈ l → (i : ℕ) × (i < length l) × (get_or l i tru ≡ p)
+form-place : {p : Form} (l : List Form) → p ∈ l → (i : ℕ) × (i < length l) × (get_or l i tru ≡ p)
 form-place l (Memᴰ.head {xs = r} e) = (0, omega arith, sym e)
 form-place l (Memᴰ.tail {xs = r} m) = let h = form-place r m in (suc h.0, (let k = h.1 in omega arith), h.2)
 
