@@ -217,11 +217,18 @@ def turn_body(f, place, body):
                 if new is None:
                     found = (m, there)
                     break
+                if new.rsplit(".", 1)[-1] in ("requires", "ensures"):
+                    found = (m, None)
+                    break
         if not found:
             break
         m, there = found
-        alias[m.group(1)] = there
         body = body[: m.start()] + body[m.end():]
+        if there is None:
+            # a contract whose clauses have names now: its parts are written out
+            body = re.sub(rf"(?<![^\s({{\[,;←=]){re.escape(m.group(1))}(?=[.\s)}}\];,]|$)", m.group(2), body)
+        else:
+            alias[m.group(1)] = there
 
     def path(m):
         comps = m.group(0).split(".")
@@ -426,15 +433,16 @@ def turn(root, crate, key_folder, infos, report):
                 continue
             args = mm.group(1).split()
             body = mm.group(2)
-            new_args = [("l.initial." if ch else "l.") + v for v, ch in zip(vars_, changed)]
-            new_args += ["l." + v for v, ch in zip(vars_, changed) if ch]
+            at = "l" if "l" not in words(body) or "l" in args else "s" if "s" not in words(body) else "at"
+            new_args = [(f"{at}.initial." if ch else f"{at}.") + v for v, ch in zip(vars_, changed)]
+            new_args += [f"{at}." + v for v, ch in zip(vars_, changed) if ch]
             if len(args) != len(new_args):
                 bad.append(f"{name}: {len(args)} arguments for {len(new_args)}")
             sub = dict(zip(args, new_args))
             body = re.sub(rf"(?<![^\s({{\[,;←]){NAME}", lambda t: sub.get(t.group(0), t.group(0)), body)
             new = f"{m.group(1)}-{old_new[1]}"
             unf = [e for e in eqs if e.startswith("unfolding")]
-            inv_out.append("\n".join([f"abbrev pub {new} : goal.{new}", *unf, f"{new} l ={body}"]))
+            inv_out.append("\n".join([f"abbrev pub {new} : goal.{new}", *unf, f"{new} {at} ={body}"]))
             continue
         if not plain and re.match(r"abbrev μ-", sig):
             fn = [n for n in funcs if "μ_" + norm(n) == norm(name)]

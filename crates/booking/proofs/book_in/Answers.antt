@@ -18,7 +18,7 @@ room c = written-room c.loop-n.invariant.0 (hand c)
 
 pub loop-n-init : goal.loop-n-init
 loop-n-init c =
-    let e = c.first-n.ensures in (written-moved (written_start c.requires.places.1) (start-number _ e), (start-count _ e, kept-start))
+    (written-moved (written_start c.requires.places.1) (start-number _ c.first-n.ensures), (start-count _ c.first-n.ensures, kept-start))
 
 pub fill_one-requires : goal.fill_one-requires
 fill_one-requires c =
@@ -32,9 +32,8 @@ loop-n-smaller c =
 pub loop-n-preserved : goal.loop-n-preserved
 loop-n-preserved c =
     let inv = c.loop-n.invariant in
-    let e = c.advanced-n.ensures in
     let written = written_next c.fill_one.new.store inv.0 (hand b20) c.fill_one.ensures in
-    (written-moved written (next-number _ _ e c.loop-n-test.true), (next-count _ _ e inv.1.0, omega (arith, written.long, c.fill_one.auto)))
+    (written-moved written (next-number _ _ c.advanced-n.ensures c.loop-n-test.true), (next-count _ _ c.advanced-n.ensures inv.1.0, omega (arith, written.long, c.fill_one.auto)))
 
 pub returns : goal.returns
 returns c = let inv = c.loop-n.invariant in written-end inv.0 (none_left _ inv.1.0 c.loop-n-test.false)

@@ -23,8 +23,7 @@ put_entry-requires c =
 
 pub returns-then-not-put_entry : goal.returns-then-not-put_entry
 returns-then-not-put_entry c =
-    let e = c.put_entry.ensures in
-    side-refused c.requires.truths.1.1.1 c.condition_at-d.ensures c.requires.truths.0 c.if-f-eq8.false c.reversed.ensures e.0 (e.1 (not-true _ c.if-not-put_entry.true-raw))
+    side-refused c.requires.truths.1.1.1 c.condition_at-d.ensures c.requires.truths.0 c.if-f-eq8.false c.reversed.ensures c.put_entry.ensures.put (c.put_entry.ensures.t_after (not-true _ c.if-not-put_entry.true-raw))
 
 pub put_entry-requires-2 : goal.put_entry-requires-2
 put_entry-requires-2 c =
@@ -37,9 +36,7 @@ put_entry-requires-2 c =
 
 pub returns-then-not-put_entry-2 : goal.returns-then-not-put_entry-2
 returns-then-not-put_entry-2 c =
-    let e = c.put_entry.ensures in
-    let g = c.put_entry-2.ensures in
-    side-demanded c.requires.truths.1.1.1 c.condition_at-d.ensures c.requires.truths.0 c.if-f-eq8.false c.reversed.ensures e.0 g.0 (g.1 (not-true _ c.if-not-put_entry-2.true-raw))
+    side-demanded c.requires.truths.1.1.1 c.condition_at-d.ensures c.requires.truths.0 c.if-f-eq8.false c.reversed.ensures c.put_entry.ensures.put c.put_entry-2.ensures.put (c.put_entry-2.ensures.t_after (not-true _ c.if-not-put_entry-2.true-raw))
 
 pub overflow_mul-at : goal.overflow_mul-at
 overflow_mul-at c =
@@ -94,8 +91,6 @@ shape_of-cw c =
 
 pub returns : goal.returns
 returns c =
-    let e = c.put_entry.ensures in
-    let g = c.put_entry-2.ensures in
     let k = c.put_entry.auto.1.1.1.1.1.0 in
     let l = c.put_entry-2.auto.1.1.1.1.1.0 in
-    side-joins c.requires.truths.1.1.1 c.condition_at-d.ensures c.requires.truths.0 c.if-f-eq8.false c.reversed.ensures e.0 g.0 (let z = c.requires.truths.1.0 in omega arith)
+    side-joins c.requires.truths.1.1.1 c.condition_at-d.ensures c.requires.truths.0 c.if-f-eq8.false c.reversed.ensures c.put_entry.ensures.put c.put_entry-2.ensures.put (let z = c.requires.truths.1.0 in omega arith)

@@ -20,9 +20,8 @@ loop-c-init c =
 
 pub put_condition-requires : goal.put_condition-requires
 put_condition-requires c =
-    let p = c.requires in
     let g = c.loop-c.invariant in
-    let l = c.loop-c-test.true in record { table = (p.0.0, (p.0.1.0, omega arith)); truths = (p.1.0, ((let r = p.1.1.0 in let e = g.long in let k = c.clear_sides.auto.0 in omega arith), (p.1.1.1, (let h = p.0.1.1 in omega arith)))) }
+    let l = c.loop-c-test.true in record { table = (c.requires.table.0, (c.requires.table.1.0, omega arith)); truths = (c.requires.truths.0, ((let r = c.requires.truths.1.0 in let e = g.long in let k = c.clear_sides.auto.0 in omega arith), (c.requires.truths.1.1, (let h = c.requires.table.1.1 in omega arith)))) }
 
 pub overflow_add-c : goal.overflow_add-c
 overflow_add-c c =

@@ -5,12 +5,11 @@ use Rattle.conditions.proofs.EntryLaws.{entry_at, gather_none, gather-on, gather
 use Rattle.conditions.proofs.put_entry.Goals as goal
 
 at : (c : goal.After-selected-x) → c.args.c * c.args.w + c.loop-k.k < length c.loop-k.cw
-at c = let p = c.requires in entry_at c.loop-k.invariant.words p.2 p.4 c.loop-k-test.true
+at c = entry_at c.loop-k.invariant.words c.requires.2 c.requires.4 c.loop-k-test.true
 
 pub loop-k-preserved : goal.loop-k-preserved
 loop-k-preserved c =
-    let p = c.requires in
-    gather-on c.loop-k.invariant _ c.loop-k-test.true p.2 p.4 c.selected-x.ensures
+    gather-on c.loop-k.invariant _ c.loop-k-test.true c.requires.2 c.requires.4 c.selected-x.ensures
 
 pub returns : goal.returns
 returns c =

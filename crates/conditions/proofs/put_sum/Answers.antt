@@ -7,12 +7,11 @@ use Rattle.conditions.proofs.EntryLaws.{apart_next, entry_at, entry-room, put-en
 use Rattle.conditions.proofs.put_sum.Goals as goal
 
 at : (c : goal.After-some_word-x) → c.args.e * c.args.w + c.loop-k.k < length c.loop-k.cw
-at c = let p = c.requires in entry_at c.loop-k.invariant p.0 p.2 c.loop-k-test.true
+at c = entry_at c.loop-k.invariant c.requires.0 c.requires.2 c.loop-k-test.true
 
 pub loop-k-preserved : goal.loop-k-preserved
 loop-k-preserved c =
-    let p = c.requires in
-    redo-on c.loop-k.invariant (entry-room _ _ p.0 p.2) c.loop-k-test.true (apart_next c.loop-k.invariant _ c.loop-k-test.true c.some_word-x.ensures)
+    redo-on c.loop-k.invariant (entry-room _ _ c.requires.0 c.requires.2) c.loop-k-test.true (apart_next c.loop-k.invariant _ c.loop-k-test.true c.some_word-x.ensures)
 
 pub returns : goal.returns
 returns c = put-end c.loop-k.invariant (omega arith) c.requires.2

@@ -23,9 +23,8 @@ returns-then-mask-eq0 c =
 pub each-requires : goal.each-requires
 each-requires c =
     let d = was-added c.next_one.ensures c.in-At.is in
-    let f = c.first_mode-m.ensures in
-    let o = f.1.0 (omega (arith, c.if-mask-eq0.false)) in
-    (ready-then c.requires.0 d c.next_one.auto.0, (omega (arith, d.up, c.requires.1.1), (f.0.0, (omega arith, f.0.1))))
+    let o = c.first_mode-m.ensures.1.0 (omega (arith, c.if-mask-eq0.false)) in
+    (ready-then c.requires.0 d c.next_one.auto.0, (omega (arith, d.up, c.requires.1.1), (c.first_mode-m.ensures.0.0, (omega arith, c.first_mode-m.ensures.0.1))))
 
 pub returns-in_default-each : goal.returns-in_default-each
 returns-in_default-each c =

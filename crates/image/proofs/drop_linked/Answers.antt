@@ -17,8 +17,7 @@ low c = mode-low c.loop-left.invariant c.loop-left-test.true
 
 pub exceeds-requires : goal.exceeds-requires
 exceeds-requires c =
-    let p = c.requires in
-    ((let h = p.0.0 in omega arith), (let l = c.loop-left.invariant.long_rest in let k = c.less.auto.0 in let h = p.1.1.1 in omega arith), (let l = low b5 in omega arith))
+    ((let h = c.requires.w_in_bounds.0 in omega arith), (let l = c.loop-left.invariant.long_rest in let k = c.less.auto.0 in let h = c.requires.w_in_bounds_2.1 in omega arith), (let l = low b5 in omega arith))
 
 pub returns-then-exceeds : goal.returns-then-exceeds
 returns-then-exceeds c =

@@ -7,7 +7,7 @@ use Rattle.truth.proofs.BlockLaws.{block-word, slot}
 use Rattle.image.proofs.exceeds.Goals as goal
 
 at : (c : goal.After-shared_slice_known-1) → c.args.e * c.args.w + c.loop-k.k < length c.args.cw.now
-at c = let p = c.requires in slot _ _ 64 _ _ p.2 (let h = p.0 in omega arith) c.loop-k-test.true
+at c = slot _ _ 64 _ _ c.requires.2 (let h = c.requires.0 in omega arith) c.loop-k-test.true
 
 pub loop-k-preserved : goal.loop-k-preserved
 loop-k-preserved c =

@@ -7,7 +7,6 @@ use Rattle.needs.proofs.list_needs.Goals as goal
 
 pub returns : goal.returns
 returns c =
-    let p = c.requires in
     let l = c.list_members.ensures.few in
     let q = c.list_fields-r.auto.1.0 in
     let r = c.list_members.auto.1.0 in

@@ -28,7 +28,7 @@ loop-n-init c =
 
 pub fill_table-c-requires : goal.fill_table-c-requires
 fill_table-c-requires c =
-    let p = c.requires in let w = p.1.0.1.0 in let at = c.loop-n.invariant.0 in (p.0, (p.1.0.0, (w, (first-room at w, second-room at w))))
+    let w = c.requires.places.1.0 in let at = c.loop-n.invariant.0 in (c.requires.ready, (c.requires.places.0, (w, (first-room at w, second-room at w))))
 
 pub put_naming-k-requires : goal.put_naming-k-requires
 put_naming-k-requires c =
@@ -36,7 +36,7 @@ put_naming-k-requires c =
 
 pub goal_type-found-requires : goal.goal_type-found-requires
 goal_type-found-requires c =
-    let p = c.requires in let w = p.1.0.1 in (p.0.truths, (w.1, subst (λ n. c.args.w ≤ n) (sym c.fill_table-c.auto.1.1.1.1.1.1.1.1.1.0) (first-room c.loop-n.invariant.0 w.0), p.0.small))
+    let w = c.requires.places.1 in (c.requires.ready.truths, (w.1, subst (λ n. c.args.w ≤ n) (sym c.fill_table-c.auto.1.1.1.1.1.1.1.1.1.0) (first-room c.loop-n.invariant.0 w.0), c.requires.ready.small))
 
 pub overflow_sub-out : goal.overflow_sub-out
 overflow_sub-out c =

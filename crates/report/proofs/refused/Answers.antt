@@ -17,10 +17,8 @@ slice_bounds-write_lines-end c =
 
 pub write_lines-requires : goal.write_lines-requires
 write_lines-requires c =
-    let p = c.requires in
-    ap (λ k. up_to k (lines_of c.args.l c.args.sheet.now c.args.newline.now) ++ take c.put_refused-n.result c.put_refused-n.new.out) p.0 ∙ put_front (omega arith) c.put_refused-n.ensures.put ∙ sym (refused-text _ _ _ _ p.1.0 p.1.1.0)
+    ap (λ k. up_to k (lines_of c.args.l c.args.sheet.now c.args.newline.now) ++ take c.put_refused-n.result c.put_refused-n.new.out) c.requires.done_value ∙ put_front (omega arith) c.put_refused-n.ensures.put ∙ sym (refused-text _ _ _ _ c.requires.k_value.0 c.requires.k_value.1.0)
 
 pub returns : goal.returns
 returns c =
-    let p = c.requires in
-    c.write_lines.ensures ∙ refused-count _ _ _ _ p.1.0 p.1.1.0
+    c.write_lines.ensures ∙ refused-count _ _ _ _ c.requires.k_value.0 c.requires.k_value.1.0

@@ -11,7 +11,7 @@ put_heading-used-requires c =
 
 pub loop-n-init : goal.loop-n-init
 loop-n-init c =
-    let p = c.requires in printing-start p.1.0 p.0 p.1.1.1.1.0 c.put_heading-used.ensures c.put_heading-used.auto.0 c.first-n.ensures
+    printing-start c.requires.prints c.requires.done_value c.requires.in_bounds.0 c.put_heading-used.ensures c.put_heading-used.auto.0 c.first-n.ensures
 
 pub fill_page-p-requires : goal.fill_page-p-requires
 fill_page-p-requires c =

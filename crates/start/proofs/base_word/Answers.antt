@@ -20,8 +20,7 @@ overflow_cast-g c = omega (arith, c.type_inv.globals c.loop-i.i)
 
 pub loop-i-preserved : goal.loop-i-preserved
 loop-i-preserved c =
-    let p = c.requires in
-    meet-on c.loop-i.invariant c.loop-i-test.true (p.0.words _ (p.1.1.0 _ c.loop-i-test.true) _ p.1.0.0)
+    meet-on c.loop-i.invariant c.loop-i-test.true (c.requires.truths.words _ (c.requires.by_index _ c.loop-i-test.true) _ c.requires.k_lt_w.0)
 
 pub low_word-requires : goal.low_word-requires
 low_word-requires c =

@@ -6,8 +6,7 @@ use Rattle.start.proofs.base_words.Goals as goal
 
 pub base_word-all-requires : goal.base_word-all-requires
 base_word-all-requires c =
-    let p = c.requires in
-    (p.0, ((c.loop-k-test.true, (let n = p.1.1.1.1.narrow in omega arith)), (p.1.1.0, p.1.1.1.0)))
+    (c.requires.truths, ((c.loop-k-test.true, (let n = c.requires.named.narrow in omega arith)), (c.requires.by_index, c.requires.by_index_2)))
 
 pub free_word-free-requires : goal.free_word-free-requires
 free_word-free-requires c =

@@ -13,9 +13,8 @@ overflow_cast-names c = omega (arith, c.type_inv.names c.loop-i.i)
 
 pub fits_name-requires : goal.fits_name-requires
 fits_name-requires c =
-    let p = c.requires in
     let t = c.loop-i-test.true in
-    (p.within _ t, (p.narrow, (let f = p.few in omega arith)))
+    (c.requires.within _ t, (c.requires.narrow, (let f = c.requires.few in omega arith)))
 
 pub returns-then-not-fits_name : goal.returns-then-not-fits_name
 unfolding obeys_by

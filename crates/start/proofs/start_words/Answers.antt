@@ -7,8 +7,7 @@ use Rattle.start.proofs.start_words.Goals as goal
 
 pub copy-requires : goal.copy-requires
 copy-requires c =
-    let p = c.requires in
-    (p.1.1.1.1, (let h = p.1.1.1.0 in omega arith))
+    (c.requires.1.1.1.1, (let h = c.requires.1.1.1.0 in omega arith))
 
 pub loop-i-init : goal.loop-i-init
 loop-i-init c =
@@ -26,16 +25,15 @@ named_type-t-requires c =
 
 pub add_type-requires : goal.add_type-requires
 add_type-requires c =
-    let p = c.requires in
     let a = c.args in (
-      p.0,
+      c.requires.0,
       (
-        p.1.1.0,
+        c.requires.1.1.0,
         (
-          p.1.1.1.0,
+          c.requires.1.1.1.0,
           (
-            (let e = c.loop-i.invariant.long in let k = c.copy.auto.0 in let h = p.1.1.1.1 in omega arith),
-            (let e = c.named_type-t.ensures in let l = type-lt _ a.n a.r c.loop-i.i (p.0.within _ c.loop-i-test.true) p.0.narrow in let h = p.1.0 in omega arith),
+            (let c.named_type-t.ensures = c.loop-i.invariant.long in let k = c.copy.auto.0 in let h = c.requires.1.1.1.1 in omega arith),
+            (let l = type-lt _ a.n a.r c.loop-i.i (c.requires.0.within _ c.loop-i-test.true) c.requires.0.narrow in let h = c.requires.1.0 in omega arith),
           ),
         ),
       ),

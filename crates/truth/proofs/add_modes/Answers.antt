@@ -10,17 +10,15 @@ use Rattle.truth.proofs.add_modes.Goals as goal
 
 pub add_place-requires : goal.add_place-requires
 add_place-requires c =
-    let p = c.requires in
-    (omega arith, place-small p.0 _ _ _ c.find_place.ensures)
+    (omega arith, place-small c.requires.leans _ _ _ c.find_place.ensures)
 
 pub loop-rest-preserved : goal.loop-rest-preserved
 loop-rest-preserved c =
     let a = c.args in
     let s = c.loop-rest.invariant in
     let n = c.loop-rest-test.true in
-    let e = c.next_tag-g.ensures in
     let l = adding-low s n in
-    adding-on s n c.find_place.result (λ t. ap (in_type t) (c.find_place.ensures ∙ ap₂ (λ g m. place_of a.ms.now a.ln.now g m a.b) e (shl_one _ (omega arith))))
+    adding-on s n c.find_place.result (λ t. ap (in_type t) (c.find_place.ensures ∙ ap₂ (λ g m. place_of a.ms.now a.ln.now g m a.b) c.next_tag-g.ensures (shl_one _ (omega arith))))
     c.add_place.auto.0 c.add_place.ensures
 
 pub returns : goal.returns

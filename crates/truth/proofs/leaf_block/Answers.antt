@@ -6,20 +6,16 @@ use Rattle.truth.proofs.leaf_block.Goals as goal
 
 pub returns-then-g-lt2 : goal.returns-then-g-lt2
 returns-then-g-lt2 c =
-    let p = c.requires in
-    leaf-whole p.0 p.1.0 p.1.1.0 _ c.tag-g.ensures c.if-g-lt2.true c.fill_block.ensures
+    leaf-whole c.requires.table c.requires.leans c.requires.i_in_bounds.0 _ c.tag-g.ensures c.if-g-lt2.true c.fill_block.ensures
 
 pub add_place-requires : goal.add_place-requires
 add_place-requires c =
-    let p = c.requires in
-    (omega arith, place-small p.1.0 _ _ _ c.find_place.ensures)
+    (omega arith, place-small c.requires.leans _ _ _ c.find_place.ensures)
 
 pub returns-then-g-eq2 : goal.returns-then-g-eq2
 returns-then-g-eq2 c =
-    let p = c.requires in
-    leaf-lit p.0 p.1.0 p.1.1.0 c.tag-g.ensures c.if-g-lt2.false c.arg.ensures c.fill_block.ensures c.find_place.ensures c.add_place.ensures c.if-g-eq2.true
+    leaf-lit c.requires.table c.requires.leans c.requires.i_in_bounds.0 c.tag-g.ensures c.if-g-lt2.false c.arg.ensures c.fill_block.ensures c.find_place.ensures c.add_place.ensures c.if-g-eq2.true
 
 pub returns : goal.returns
 returns c =
-    let p = c.requires in
-    leaf-nlit p.0 p.1.0 p.1.1.0 c.tag-g.ensures c.if-g-lt2.false c.arg.ensures c.fill_block.ensures c.find_place.ensures c.add_place.ensures (omega arith) c.turn_block.ensures
+    leaf-nlit c.requires.table c.requires.leans c.requires.i_in_bounds.0 c.tag-g.ensures c.if-g-lt2.false c.arg.ensures c.fill_block.ensures c.find_place.ensures c.add_place.ensures (omega arith) c.turn_block.ensures

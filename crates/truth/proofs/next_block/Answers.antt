@@ -11,5 +11,4 @@ whole false x = refl
 
 pub returns : goal.returns
 returns c =
-    let s = c.fill_block.ensures in
-    redone-as (λ t. whole c.args.every _) (redone-then s (c.add_modes.ensures _ s.block))
+    redone-as (λ t. whole c.args.every _) (redone-then c.fill_block.ensures (c.add_modes.ensures _ c.fill_block.ensures.block))

@@ -7,14 +7,12 @@ use Rattle.truth.proofs.truth_words.Goals as goal
 
 pub truth_block-requires : goal.truth_block-requires
 truth_block-requires c =
-    let p = c.requires in
-    let h = c.loop-i-test.true in record { table = p.0; leans = p.1.0; i_in_bounds = (h, block-fits _ _ _ _ h (omega arith)); by_index = c.loop-i.invariant.1 }
+    let h = c.loop-i-test.true in record { table = c.requires.table; leans = c.requires.leans; i_in_bounds = (h, block-fits _ _ _ _ h (omega arith)); by_index = c.loop-i.invariant.1 }
 
 pub loop-i-preserved : goal.loop-i-preserved
 loop-i-preserved c =
-    let s = c.truth_block.ensures in
     let v = c.loop-i.invariant in
-    (s.long ∙ v.0, redone-next s v.1)
+    (c.truth_block.ensures.long ∙ v.0, redone-next c.truth_block.ensures v.1)
 
 pub returns : goal.returns
 returns c = record { room = omega arith; words = λ j h. c.loop-i.invariant.1 j (omega arith) }

@@ -8,11 +8,10 @@ loop-k-init c = sofar-none c.requires.0
 
 pub with_value-m-requires : goal.with_value-m-requires
 with_value-m-requires c =
-    let p = c.requires in
-    let s = p.0.small in
-    let h = p.1 in
+    let s = c.requires.0.small in
+    let h = c.requires.1 in
     let l = c.loop-k-test.true in
-    (sofar-ready p.0 c.loop-k.invariant, (sofar-room p.0 c.loop-k.invariant h l, omega arith))
+    (sofar-ready c.requires.0 c.loop-k.invariant, (sofar-room c.requires.0 c.loop-k.invariant h l, omega arith))
 
 pub loop-k-preserved : goal.loop-k-preserved
 loop-k-preserved c =

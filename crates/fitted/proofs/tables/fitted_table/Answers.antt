@@ -5,5 +5,4 @@ use native.Mathlib.Omega.{arith}
 use Rattle.fitted.proofs.tables.fitted_table.Goals as goal
 
 pub table_in-requires : goal.table_in-requires
-table_in-requires c =
-    let p = c.requires in record { accepts = p.0; words_in_bounds = p.1; stores = sized 72 4 (let h = c.if-u-gt72.false in omega arith) (let h = c.if-u-gt4.false in omega arith) refl refl refl refl }
+table_in-requires c = record { accepts = c.requires.accepts; words_in_bounds = c.requires.words_in_bounds; stores = sized 72 4 (let h = c.if-u-gt72.false in omega arith) (let h = c.if-u-gt4.false in omega arith) refl refl refl refl }

@@ -5,5 +5,4 @@ use native.Mathlib.Omega.{arith}
 use Rattle.fitted.proofs.verdicts.fitted_verdict.Goals as goal
 
 pub verdict_in-requires : goal.verdict_in-requires
-verdict_in-requires c =
-    let p = c.requires in record { accepts = p; stores = sized 72 4 (let h = c.if-u-gt72.false in omega arith) (let h = c.if-u-gt4.false in omega arith) refl refl refl refl }
+verdict_in-requires c = record { accepts = c.requires; stores = sized 72 4 (let h = c.if-u-gt72.false in omega arith) (let h = c.if-u-gt4.false in omega arith) refl refl refl refl }

@@ -16,7 +16,7 @@ low : (c : goal.In-loop-rest) → entry c < 64
 low c = join-low c.loop-rest.invariant.first c.loop-rest-test.true
 
 at : (c : goal.In-loop-rest) → let g = c.args in entry c * g.w + (g.k + 3) < length g.cw.now
-at c = let p = c.requires in slot _ _ 64 _ _ (low c) (let h = p.0 in omega arith) (let h = p.1 in omega arith)
+at c = slot _ _ 64 _ _ (low c) (let h = c.requires.0 in omega arith) (let h = c.requires.1 in omega arith)
 
 pub loop-rest-preserved : goal.loop-rest-preserved
 loop-rest-preserved c =

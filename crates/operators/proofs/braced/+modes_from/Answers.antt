@@ -11,20 +11,16 @@ returns-in_default t c =
 
 pub modes_from-requires : goal.modes_from-requires
 modes_from-requires t c =
-    let two = c.next_two-two.ensures in
-    omega (arith, c.requires, two.first-is.past, two.second_is.inside, token-past two.second_is c.in-Comma.is refl, mode-behind _ _ _ _ 0 _ two.first-is _ c.one_mode.ensures _ _ _ c.in-Set.is _ two.second_is)
+    omega (arith, c.requires, c.next_two-two.ensures.first-is.past, c.next_two-two.ensures.second_is.inside, token-past c.next_two-two.ensures.second_is c.in-Comma.is refl, mode-behind _ _ _ _ 0 _ c.next_two-two.ensures.first-is _ c.one_mode.ensures _ _ _ c.in-Set.is _ c.next_two-two.ensures.second_is)
 
 pub returns-in-Comma : goal.returns-in-Comma
 returns-in-Comma t c =
-    let two = c.next_two-two.ensures in
-    modes-more _ _ _ _ _ _ two.first-is _ c.one_mode.ensures _ _ _ c.in-Set.is _ two.second_is _ _ c.in-Comma.is c.lower.ensures c.modes_from.ensures
+    modes-more _ _ _ _ _ _ c.next_two-two.ensures.first-is _ c.one_mode.ensures _ _ _ c.in-Set.is _ c.next_two-two.ensures.second_is _ _ c.in-Comma.is c.lower.ensures c.modes_from.ensures
 
 pub returns-in-CloseBrace : goal.returns-in-CloseBrace
 returns-in-CloseBrace t c =
-    let two = c.next_two-two.ensures in
-    modes-last _ _ _ _ _ _ two.first-is _ c.one_mode.ensures _ _ _ c.in-Set.is _ two.second_is _ c.in-CloseBrace.is c.lower-in-CloseBrace.ensures
+    modes-last _ _ _ _ _ _ c.next_two-two.ensures.first-is _ c.one_mode.ensures _ _ _ c.in-Set.is _ c.next_two-two.ensures.second_is _ c.in-CloseBrace.is c.lower-in-CloseBrace.ensures
 
 pub returns-in_default-k : goal.returns-in_default-k
 returns-in_default-k t c =
-    let two = c.next_two-two.ensures in
-    modes-none _ _ _ _ _ _ two.first-is _ c.one_mode.ensures _ _ _ c.in-Set.is _ two.second_is c.in_default-k.in_default-k-own.keys3
+    modes-none _ _ _ _ _ _ c.next_two-two.ensures.first-is _ c.one_mode.ensures _ _ _ c.in-Set.is _ c.next_two-two.ensures.second_is c.in_default-k.in_default-k-own.keys3

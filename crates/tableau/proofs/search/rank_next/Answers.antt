@@ -18,8 +18,7 @@ returns-then-not-pick c =
 
 pub drop_linked-requires : goal.drop_linked-requires
 drop_linked-requires c =
-    let p = c.requires in
-    let r = p.0.1.2 in record { w_in_bounds = (r.links.room, r.small, search rules); by_index = (λ m t h l. r.links.refuse m h t l); w_in_bounds_2 = ((let k = c.pick.auto.0 in let h = p.1.3 in omega arith), p.1.4, p.1.0, p.1.1) }
+    let r = c.requires.among.1.2 in record { w_in_bounds = (r.links.room, r.small, search rules); by_index = (λ m t h l. r.links.refuse m h t l); w_in_bounds_2 = ((let k = c.pick.auto.0 in let h = c.requires.w_in_bounds.3 in omega arith), c.requires.w_in_bounds.4, c.requires.w_in_bounds.0, c.requires.w_in_bounds.1) }
 
 pub release-requires : goal.release-requires
 release-requires c =

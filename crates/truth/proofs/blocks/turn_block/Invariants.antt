@@ -7,7 +7,7 @@ use Rattle.truth.proofs.Redoing.{Redoing}
 use Rattle.truth.proofs.blocks.turn_block.Given as goal
 
 abbrev pub invariant-loop-k : goal.invariant-loop-k
-invariant-loop-k l = Redoing (λ l x. (P : ℕ → Bool) → Answers P l (get_or l.initial.tw (l.i * l.w + l) 0) → Answers (λ t. not (P t)) l x) l.w l.i l.initial.tw l.tw l.k
+invariant-loop-k s = Redoing (λ l x. (P : ℕ → Bool) → Answers P l (get_or s.initial.tw (s.i * s.w + l) 0) → Answers (λ t. not (P t)) l x) s.w s.i s.initial.tw s.tw s.k
 
 abbrev pub decreases-loop-k : goal.decreases-loop-k
 decreases-loop-k l = l.w - l.k
