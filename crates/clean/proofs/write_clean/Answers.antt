@@ -87,7 +87,7 @@ slice_bounds-put_lines-end-3 c =
     sym (length-take-le _ _ (formulas-within (given b29)))
 
 pub put_lines-requires : goal.put_lines-requires
-put_lines-requires c = record { ready = (table-ready (given b30), places-among (given b30)); places_in_bounds = lines-room (given b30) c.third_line-from.ensures c.measure_lines.ensures c.in-Bytes.is c.put-at.ensures c.if-store-size.false c.put-at.auto.0 }
+put_lines-requires c = record { ready = (table-ready (given b30), places-among (given b30)); places_in_bounds = lines-room (given b30) c.third_line-from.ensures c.measure_lines.ensures c.in-Bytes.is c.put-at.ensures c.if-store-size.false c.put-at.auto.out }
 
 pub returns : goal.returns
 returns c =

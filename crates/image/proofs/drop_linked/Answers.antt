@@ -17,7 +17,7 @@ low c = mode-low c.loop-left.invariant c.loop-left-test.true
 
 pub exceeds-requires : goal.exceeds-requires
 exceeds-requires c =
-    ((let h = c.requires.w_in_bounds.0 in omega arith), (let l = c.loop-left.invariant.long_rest in let k = c.less.auto.0 in let h = c.requires.w_in_bounds_2.1 in omega arith), (let l = low b5 in omega arith))
+    ((let h = c.requires.w_in_bounds.0 in omega arith), (let l = c.loop-left.invariant.long_rest in let k = c.less.auto.dst in let h = c.requires.w_in_bounds_2.1 in omega arith), (let l = low b5 in omega arith))
 
 pub returns-then-exceeds : goal.returns-then-exceeds
 returns-then-exceeds c =
@@ -51,7 +51,7 @@ pub loop-left-preserved : goal.loop-left-preserved
 loop-left-preserved c =
     mode-on c.loop-left.invariant c.loop-left-test.true _
     (drained-less _ _ _ _ _ _ _ c.requires.w_in_bounds_2.2 (let l = c.loop-left.invariant.long_rest in let h = c.requires.w_in_bounds_2.1 in omega arith) c.less.ensures _ _ c.drain.ensures.by_index)
-    _ c.drain.auto.0 (c.drain.auto.1.0 ∙ c.less.auto.0)
+    _ c.drain.auto.dst (c.drain.auto.rest ∙ c.less.auto.dst)
 
 pub loop-left-init : goal.loop-left-init
 loop-left-init c = mode-start c.requires.w_in_bounds.2
