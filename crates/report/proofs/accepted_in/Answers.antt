@@ -26,4 +26,4 @@ slice_bounds-write_pages-end-5 c =
 
 pub write_pages-requires : goal.write_pages-requires
 write_pages-requires c =
-    let q = c.requires.accepts in let r = c.args.newline.now in let asked = pages-asked q.0 r (c.fill-n.ensures.upper_bound.1, c.fill-n.ensures.based) (omega (arith, c.requires.stores.families, c.fill-n.auto.base.0)) in record { done_value = c.requires.done_value; prints = prints q.0 r (c.fill-n.ensures.upper_bound.1, c.fill-n.ensures.based) q.1.0; ready = c.fill-n.ensures.upper_bound.1; places = asked; in_bounds = (omega arith, q.1.1) }
+    let q = c.requires.accepts in let r = c.args.newline.now in let asked = pages-asked q.0 r (c.fill-n.ensures.upper_bound.1, c.fill-n.ensures.based) (omega (arith, c.requires.stores.families, c.fill-n.auto.base)) in record { done_value = c.requires.done_value; prints = prints q.0 r (c.fill-n.ensures.upper_bound.1, c.fill-n.ensures.based) q.1.0; ready = c.fill-n.ensures.upper_bound.1; places = asked; in_bounds = (omega arith, q.1.1) }

@@ -32,7 +32,7 @@ add_type-requires c =
         (
           c.requires.1.1.1.0,
           (
-            (let c.named_type-t.ensures = c.loop-i.invariant.long in let k = c.copy.auto.dst in let h = c.requires.1.1.1.1 in omega arith),
+            (let e = c.loop-i.invariant.long in let k = c.copy.auto.dst in let h = c.requires.1.1.1.1 in omega arith),
             (let l = type-lt _ a.n a.r c.loop-i.i (c.requires.0.within _ c.loop-i-test.true) c.requires.0.narrow in let h = c.requires.1.0 in omega arith),
           ),
         ),
@@ -48,7 +48,7 @@ loop-i-smaller c = let l = c.loop-i-test.true in omega arith
 pub loop-i-preserved : goal.loop-i-preserved
 loop-i-preserved c =
     let a = c.args in
-    started-on a.w a.base.now a.names.now a.n a.r (let k = c.copy.auto.dst in let h = c.requires.1.1.1.1 in omega arith) c.loop-i.invariant c.loop-i-test.true c.add_type.auto.dst.0
+    started-on a.w a.base.now a.names.now a.n a.r (let k = c.copy.auto.dst in let h = c.requires.1.1.1.1 in omega arith) c.loop-i.invariant c.loop-i-test.true c.add_type.auto.dst
     c.named_type-t.ensures c.add_type.ensures
 
 pub shape_of-dst : goal.shape_of-dst

@@ -25,8 +25,8 @@ slice_bounds-fill_book-end-5 c =
     sym (length-take-le _ _ c.requires.accepts.names-within)
 
 pub fill_book-requires : goal.fill_book-requires
-fill_book-requires c = let p = book-asked c.requires.accepts (c.fill-n.ensures.upper_bound.1, c.fill-n.ensures.based) (omega (arith, c.requires.stores.families, c.fill-n.auto.base.0)) _ c.requires.words_in_bounds in record { ready = p.0; places = p.1 }
+fill_book-requires c = let p = book-asked c.requires.accepts (c.fill-n.ensures.upper_bound.1, c.fill-n.ensures.based) (omega (arith, c.requires.stores.families, c.fill-n.auto.base)) _ c.requires.words_in_bounds in record { ready = p.0; places = p.1 }
 
 pub returns : goal.returns
 returns c =
-    book-filled c.requires.accepts (c.fill-n.ensures.upper_bound.1, c.fill-n.ensures.based) (omega (arith, c.requires.stores.families, c.fill-n.auto.base.0)) _ c.fill_book.ensures
+    book-filled c.requires.accepts (c.fill-n.ensures.upper_bound.1, c.fill-n.ensures.based) (omega (arith, c.requires.stores.families, c.fill-n.auto.base)) _ c.fill_book.ensures

@@ -25,8 +25,8 @@ slice_bounds-fill_table-end-5 c =
     sym (length-take-le _ _ c.requires.accepts.names-within)
 
 pub fill_table-requires : goal.fill_table-requires
-fill_table-requires c = let p = fill-asked c.requires.accepts (c.fill-n.ensures.upper_bound.1, c.fill-n.ensures.based) (omega (arith, c.requires.stores.families, c.fill-n.auto.base.0)) c.requires.words_in_bounds in record { ready = p.0; places = p.1 }
+fill_table-requires c = let p = fill-asked c.requires.accepts (c.fill-n.ensures.upper_bound.1, c.fill-n.ensures.based) (omega (arith, c.requires.stores.families, c.fill-n.auto.base)) c.requires.words_in_bounds in record { ready = p.0; places = p.1 }
 
 pub returns : goal.returns
 returns c =
-    table_filled c.requires.accepts (c.fill-n.ensures.upper_bound.1, c.fill-n.ensures.based) (omega (arith, c.requires.stores.families, c.fill-n.auto.base.0)) _ c.fill_table.ensures
+    table_filled c.requires.accepts (c.fill-n.ensures.upper_bound.1, c.fill-n.ensures.based) (omega (arith, c.requires.stores.families, c.fill-n.auto.base)) _ c.fill_table.ensures

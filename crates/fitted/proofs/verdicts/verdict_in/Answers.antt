@@ -25,8 +25,8 @@ slice_bounds-judge-end-5 c =
     sym (length-take-le _ _ c.requires.accepts.names-within)
 
 pub judge-requires : goal.judge-requires
-judge-requires c = let p = judge-asked c.requires.accepts (c.fill-n.ensures.upper_bound.1, c.fill-n.ensures.based) (omega (arith, c.requires.stores.families, c.fill-n.auto.base.0)) in record { ready = p.0; places = p.1 }
+judge-requires c = let p = judge-asked c.requires.accepts (c.fill-n.ensures.upper_bound.1, c.fill-n.ensures.based) (omega (arith, c.requires.stores.families, c.fill-n.auto.base)) in record { ready = p.0; places = p.1 }
 
 pub returns : goal.returns
 returns c =
-    judged c.requires.accepts (c.fill-n.ensures.upper_bound.1, c.fill-n.ensures.based) (omega (arith, c.requires.stores.families, c.fill-n.auto.base.0)) c.judge.ensures
+    judged c.requires.accepts (c.fill-n.ensures.upper_bound.1, c.fill-n.ensures.based) (omega (arith, c.requires.stores.families, c.fill-n.auto.base)) c.judge.ensures

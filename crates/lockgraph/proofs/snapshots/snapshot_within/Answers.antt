@@ -59,7 +59,7 @@ slice_bounds-fill_row-end-in-Nodes-2 c =
     sym (length-take-le _ _ (let h = last-few c.read-reading.ensures c.number-k.ensures c.if-k-ne0.false in let l = (length_unmapped usize-field.Value c.read-reading.result.places 5 c.read-reading.type-inv.1.1.1.1.1.1.1.0.1.0.1) in omega arith))
 
 pub fill_row-requires : goal.fill_row-requires
-fill_row-requires c = let p = fill-asked c.read-reading.ensures c.number-k.ensures c.if-k-ne0.false _ c.end_of-e.ensures _ c.read.result c.read.new.out.0 c.read.ensures c.in-Nodes.is c.args.row.now c.read.auto.out.0 (length_unmapped u64-field.Value c.read-reading.result.members 136 c.read-reading.type-inv.1.1.1.1.1.1.1.1.1.0.1.0.1) (length_unmapped usize-field.Value c.read-reading.result.places 5 c.read-reading.type-inv.1.1.1.1.1.1.1.0.1.0.1) c.if-row-n.false in record { n_bound = p.0; n_in_bounds = p.1 }
+fill_row-requires c = let p = fill-asked c.read-reading.ensures c.number-k.ensures c.if-k-ne0.false _ c.end_of-e.ensures _ c.read.result c.read.new.out.0 c.read.ensures c.in-Nodes.is c.args.row.now c.read.auto.out (length_unmapped u64-field.Value c.read-reading.result.members 136 c.read-reading.type-inv.1.1.1.1.1.1.1.1.1.0.1.0.1) (length_unmapped usize-field.Value c.read-reading.result.places 5 c.read-reading.type-inv.1.1.1.1.1.1.1.0.1.0.1) c.if-row-n.false in record { n_bound = p.0; n_in_bounds = p.1 }
 
 pub returns-in-Refused : goal.returns-in-Refused
 returns-in-Refused c = let is = text-refused c.read-reading.ensures c.number-k.ensures c.if-k-ne0.false _ c.end_of-e.ensures _ c.read.result c.read.new.out.0 c.read.ensures _ c.in-Refused.is in record { snapshot_is = is; snapshot_means = snapshot-means _ _ _ is }

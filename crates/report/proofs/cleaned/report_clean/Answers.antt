@@ -8,13 +8,13 @@ use Rattle.report.proofs.cleaned.report_clean.Goals as goal
 pub slice_bounds-store-end : goal.slice_bounds-store-end
 slice_bounds-store-end c =
     let w = text-within c.clean_within.ensures refl c.in-Done.is in
-    let k = c.clean_within.auto.store.0 in
+    let k = c.clean_within.auto.store in
     omega arith
 
 pub slice_bounds-write_text-end : goal.slice_bounds-write_text-end
 slice_bounds-write_text-end c =
     let w = text-within c.clean_within.ensures refl c.in-Done.is in
-    let k = c.clean_within.auto.store.0 in
+    let k = c.clean_within.auto.store in
     sym (length-take-le _ _ (omega arith))
 
 pub write_text-requires : goal.write_text-requires

@@ -13,7 +13,7 @@ eliminate_need-requires c = record { among = ((_, c.loop-j-test.true, refl), c.r
 
 pub loop-j-preserved : goal.loop-j-preserved
 loop-j-preserved c =
-    round-on c.loop-j.invariant (let k = c.copy.auto.dst in let h = c.requires.w_in_bounds.1 in omega arith) _ _ _ _ _ c.loop-j-test.true c.eliminate_need.auto.dst c.eliminate_need.auto.copy c.eliminate_need.auto.todo c.eliminate_need.auto.v c.eliminate_need.auto.rest.0 c.eliminate_need.ensures
+    round-on c.loop-j.invariant (let k = c.copy.auto.dst in let h = c.requires.w_in_bounds.1 in omega arith) _ _ _ _ _ c.loop-j-test.true c.eliminate_need.auto.dst c.eliminate_need.auto.copy c.eliminate_need.auto.todo c.eliminate_need.auto.v c.eliminate_need.auto.rest c.eliminate_need.ensures
 
 pub returns : goal.returns
 returns c = record { by_index = (λ ms ln r. round-end r c.args.src.now c.args.dst.now c.loop-j.invariant c.loop-j-test.false c.requires.w_in_bounds.1 c.copy.ensures); value = c.equal.ensures }

@@ -37,4 +37,4 @@ loop-w-smaller c =
 
 pub loop-w-preserved : goal.loop-w-preserved
 loop-w-preserved c =
-    record { long = c.rank_next.auto.copy ∙ c.loop-w.invariant.long; long-todo = c.rank_next.auto.todo ∙ c.loop-w.invariant.long-todo; long-v = c.rank_next.auto.v ∙ c.loop-w.invariant.long-v; long_rest = c.rank_next.auto.rest.0 ∙ c.loop-w.invariant.long_rest; is = λ ms ln i r k. search-on r k c.args.src.now c.requires.w_in_bounds.0 c.loop-w.copy (c.loop-w.invariant.is ms ln i r k) _ c.rank_next.ensures.by_index }
+    record { long = c.rank_next.auto.copy ∙ c.loop-w.invariant.long; long-todo = c.rank_next.auto.todo ∙ c.loop-w.invariant.long-todo; long-v = c.rank_next.auto.v ∙ c.loop-w.invariant.long-v; long_rest = c.rank_next.auto.rest ∙ c.loop-w.invariant.long_rest; is = λ ms ln i r k. search-on r k c.args.src.now c.requires.w_in_bounds.0 c.loop-w.copy (c.loop-w.invariant.is ms ln i r k) _ c.rank_next.ensures.by_index }
