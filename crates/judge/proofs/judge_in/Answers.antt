@@ -8,8 +8,7 @@ pub loop-n-init : goal.loop-n-init
 loop-n-init c = (judge-moved judge-start (start-number c.first-n.result c.first-n.ensures), (start-count c.first-n.result c.first-n.ensures, kept-start))
 
 pub try_naming-found-requires : goal.try_naming-found-requires
-try_naming-found-requires c =
-    (c.requires.ready, (room-kept c.requires.room c.loop-n.invariant.1.1, c.requires.places))
+try_naming-found-requires c = record { ready = c.requires.ready; room = room-kept c.requires.room c.loop-n.invariant.1.1; places = c.requires.places }
 
 pub returns-in-At : goal.returns-in-At
 returns-in-At c =

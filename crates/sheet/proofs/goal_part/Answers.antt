@@ -5,10 +5,8 @@ use native.Mathlib.Omega.{arith}
 use Rattle.sheet.proofs.goal_part.Goals as goal
 
 pub returns-then-refusal-ne0 : goal.returns-then-refusal-ne0
-returns-then-refusal-ne0 c =
-    let s = c.args.s.now in
-    let k = c.args.refusal in
-    (goal-refused _ _ c.if-refusal-ne0.true, (refl, λ e. omega (arith, start-refused s k c.if-refusal-ne0.true)))
+returns-then-refusal-ne0 c = let s = c.args.s.now in
+    let k = c.args.refusal in record { result_value = goal-refused _ _ c.if-refusal-ne0.true; ref_ptr_value = (refl, λ e. omega (arith, start-refused s k c.if-refusal-ne0.true)) }
 
 pub returns : goal.returns
 returns c = let p = (

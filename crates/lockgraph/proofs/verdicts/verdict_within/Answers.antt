@@ -5,9 +5,8 @@ use Rattle.frame.proofs.SetUpLaws.{accepts-by}
 use Rattle.lockgraph.proofs.verdicts.verdict_within.Goals as goal
 
 pub returns-then-k-ne0 : goal.returns-then-k-ne0
-returns-then-k-ne0 c =
-    (let is = verdict-refused c.set_up-u.ensures c.if-k-ne0.true in
-    (is, (verdict-demand-2 _ _ is, verdict-demand-3 _ _ is)))
+returns-then-k-ne0 c = let p = (let is = verdict-refused c.set_up-u.ensures c.if-k-ne0.true in
+    (is, (verdict-demand-2 _ _ is, verdict-demand-3 _ _ is))) in record { value = p.0; verdict_demand2 = p.1.0; verdict_demand3 = p.1.1 }
 
 pub fitted_verdict-v-requires : goal.fitted_verdict-v-requires
 fitted_verdict-v-requires c = accepts-by c.set_up-u.ensures c.if-k-ne0.false
