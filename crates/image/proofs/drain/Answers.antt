@@ -35,8 +35,9 @@ shape_of-rest-then-not-keep_some c =
     c.loop-a.invariant.long_rest
 
 pub returns-then-not-keep_some : goal.returns-then-not-keep_some
-returns-then-not-keep_some c = let p = (let e = sym c.keep_some.ensures.some ∙ not-true _ c.if-not-keep_some.true-raw in
-    (drain-empty c.loop-a.invariant _ c.partners.ensures _ c.keep_some.ensures.is e, λ f. any_false _ _ e)) in record { by_index = p.0; t_after = p.1 }
+returns-then-not-keep_some c =
+    let e = sym c.keep_some.ensures.some ∙ not-true _ c.if-not-keep_some.true-raw in
+    record { by_index = drain-empty c.loop-a.invariant _ c.partners.ensures _ c.keep_some.ensures.is e; t_after = λ f. any_false _ _ e }
 
 pub keep_lacking-requires : goal.keep_lacking-requires
 keep_lacking-requires c =

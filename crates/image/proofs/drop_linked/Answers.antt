@@ -20,7 +20,7 @@ returns-then-exceeds c =
     let n = nothing-less _ _ _ _ (let l = c.loop-left.invariant.long in let h = c.requires.w_in_bounds_2.0 in omega arith) c.less-then-exceeds.ensures in
     mode-none c.loop-left.invariant c.loop-left-test.true _
     (freed-less _ _ _ _ _ _ _ c.requires.w_in_bounds_2.2 (let l = c.loop-left.invariant.long_rest in let h = c.requires.w_in_bounds_2.1 in omega arith) c.less.ensures
-    (has c.args.w c.args.cw.now (refusing (mode b11))) (λ t l. c.requires.by_index (mode b11) t (low) l) (sym c.exceeds.ensures ∙ c.if-exceeds.true) _ _ n) n
+    (has c.args.w c.args.cw.now (refusing (count_trailing_zeros 64 c.loop-left.left))) (λ t l. c.requires.by_index (count_trailing_zeros 64 c.loop-left.left) t (low) l) (sym c.exceeds.ensures ∙ c.if-exceeds.true) _ _ n) n
 
 pub overflow_add-w : goal.overflow_add-w
 overflow_add-w c =

@@ -13,7 +13,7 @@ loop-rest-smaller c = less-lt _ c.loop-rest-test.true
 
 pub loop-rest-preserved : goal.loop-rest-preserved
 loop-rest-preserved c =
-    sift-next c.loop-rest.invariant c.loop-rest-test.true _ _ (entry-test c.args.w c.args.cw.now (zeros b2) c.args.k c.args.b c.requires.2) c.join_if-acc.ensures.0 c.join_if-acc.ensures.1
+    sift-next c.loop-rest.invariant c.loop-rest-test.true _ _ (entry-test c.args.w c.args.cw.now (count_trailing_zeros 64 c.loop-rest.rest) c.args.k c.args.b c.requires.2) c.join_if-acc.ensures.0 c.join_if-acc.ensures.1
 
 pub returns : goal.returns
 returns c =

@@ -13,10 +13,10 @@ pub loop-rest-preserved : goal.loop-rest-preserved
 loop-rest-preserved c =
     let g = c.args in
     joins-on c.loop-rest.invariant c.loop-rest-test.true
-    (word-not (word-here g.w g.cw.now (entry b4) g.k (entry b4 * g.w + g.k) (omega arith) (c.type_inv.cw _).fits))
-    (word-not (word-here g.w g.cw.now (entry b4) (g.k + 1) (entry b4 * g.w + g.k + 1) (omega arith) (c.type_inv.cw _).fits))
-    (word-not (word-here g.w g.cw.now (entry b4) (g.k + 2) (entry b4 * g.w + g.k + 2) (omega arith) (c.type_inv.cw _).fits))
-    (word-not (word-here g.w g.cw.now (entry b4) (g.k + 3) (entry b4 * g.w + g.k + 3) (omega arith) (c.type_inv.cw _).fits))
+    (word-not (word-here g.w g.cw.now (count_trailing_zeros 64 c.loop-rest.rest) g.k (count_trailing_zeros 64 c.loop-rest.rest * g.w + g.k) (omega arith) (c.type_inv.cw _).fits))
+    (word-not (word-here g.w g.cw.now (count_trailing_zeros 64 c.loop-rest.rest) (g.k + 1) (count_trailing_zeros 64 c.loop-rest.rest * g.w + g.k + 1) (omega arith) (c.type_inv.cw _).fits))
+    (word-not (word-here g.w g.cw.now (count_trailing_zeros 64 c.loop-rest.rest) (g.k + 2) (count_trailing_zeros 64 c.loop-rest.rest * g.w + g.k + 2) (omega arith) (c.type_inv.cw _).fits))
+    (word-not (word-here g.w g.cw.now (count_trailing_zeros 64 c.loop-rest.rest) (g.k + 3) (count_trailing_zeros 64 c.loop-rest.rest * g.w + g.k + 3) (omega arith) (c.type_inv.cw _).fits))
 
 pub returns : goal.returns
 unfolding passing not_all
