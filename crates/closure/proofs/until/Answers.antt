@@ -20,4 +20,4 @@ returns-in-2 c =
 
 pub returns-in_default : goal.returns-in_default
 returns-in_default c =
-    until-is c.args.sign c.args.mask (get_or (forms (take c.args.n c.args.tab.now)) c.args.left tru) (get_or (forms (take c.args.n c.args.tab.now)) c.args.right tru) c.args.op 3 (omega (arith, c.requires.1.0, c.in_default.in_default-own.rest.1, c.in_default.in_default-own.rest.0.1, c.in_default.in_default-own.rest.0.0.1)) c.plain-in_default.ensures
+    until-is c.args.sign c.args.mask (get_or (forms (take c.args.n c.args.tab.now)) c.args.left tru) (get_or (forms (take c.args.n c.args.tab.now)) c.args.right tru) c.args.op 3 (omega arith) c.plain-in_default.ensures

@@ -1,7 +1,6 @@
 use native.Mathlib.Omega.{arith}
 use Rattle.head.proofs.WordLaws.{collect-wrong, collect-room, collect-last, collect-next, kind_fits, kind-few, kinds-collected}
 use Rattle.head.specs.Head.{kind_of, kind_right}
-use borrow.Author.Tests.{not-true, not-false}
 use lib.Seq.{length-take-le}
 use lib.ListN.{length-set}
 use Prim.Native.Nat.{ℕ}
@@ -37,20 +36,20 @@ kind_right-requires c = omega arith
 pub returns-then-not-kind_right : goal.returns-then-not-kind_right
 returns-then-not-kind_right c =
     let p = c.loop-kinds.invariant in
-    record { few = omega arith; room = p.room; are = collect-wrong p c.end_of-e.ensures.0 c.end_of-e.ensures.1.1 (sym (right_is _ _ c.kind_of-k.ensures c.kind_right.ensures) ∙ not-true _ c.if-not-kind_right.true-raw) }
+    record { few = omega arith; room = p.room; are = collect-wrong p c.end_of-e.ensures.0 c.end_of-e.ensures.1.1 (sym (right_is _ _ c.kind_of-k.ensures c.kind_right.ensures) ∙ c.if-not-kind_right.true) }
 
 pub bounds-kinds-n : goal.bounds-kinds-n
 bounds-kinds-n c =
-    collect-room c.loop-kinds.invariant c.end_of-e.ensures.0 c.end_of-e.ensures.1.1 kind-few (sym (right_is _ _ c.kind_of-k.ensures c.kind_right.ensures) ∙ not-false _ c.if-not-kind_right.false-raw)
+    collect-room c.loop-kinds.invariant c.end_of-e.ensures.0 c.end_of-e.ensures.1.1 kind-few (sym (right_is _ _ c.kind_of-k.ensures c.kind_right.ensures) ∙ c.if-not-kind_right.false)
 
 pub overflow_add-n : goal.overflow_add-n
 overflow_add-n c =
-    omega (arith, collect-room c.loop-kinds.invariant c.end_of-e.ensures.0 c.end_of-e.ensures.1.1 kind-few (sym (right_is _ _ c.kind_of-k.ensures c.kind_right.ensures) ∙ not-false _ c.if-not-kind_right.false-raw))
+    omega (arith, collect-room c.loop-kinds.invariant c.end_of-e.ensures.0 c.end_of-e.ensures.1.1 kind-few (sym (right_is _ _ c.kind_of-k.ensures c.kind_right.ensures) ∙ c.if-not-kind_right.false))
 
 pub returns-then-line-e : goal.returns-then-line-e
 returns-then-line-e c =
     let p = c.loop-kinds.invariant in
-    let r = sym (right_is _ _ c.kind_of-k.ensures c.kind_right.ensures) ∙ not-false _ c.if-not-kind_right.false-raw in
+    let r = sym (right_is _ _ c.kind_of-k.ensures c.kind_right.ensures) ∙ c.if-not-kind_right.false in
     record { few = omega (arith, collect-room p c.end_of-e.ensures.0 c.end_of-e.ensures.1.1 kind-few r); room = simp length-set p.room; are = collect-last p c.end_of-e.ensures.0 c.end_of-e.ensures.1.1 kind-few r c.kind_of-k.ensures c.if-line-e.true }
 
 pub overflow_add-at : goal.overflow_add-at
@@ -61,5 +60,5 @@ loop-kinds-smaller c = omega arith
 
 pub loop-kinds-preserved : goal.loop-kinds-preserved
 loop-kinds-preserved c =
-    let r = sym (right_is _ _ c.kind_of-k.ensures c.kind_right.ensures) ∙ not-false _ c.if-not-kind_right.false-raw in
+    let r = sym (right_is _ _ c.kind_of-k.ensures c.kind_right.ensures) ∙ c.if-not-kind_right.false in
     collect-next c.loop-kinds.invariant c.end_of-e.ensures.0 c.end_of-e.ensures.1.1 kind-few r c.kind_of-k.ensures c.if-line-e.false
