@@ -510,7 +510,7 @@ def turn(root, crate, key_folder, infos, report):
             if args not in (["c"], ["t", "c"]):
                 bad.append(f"{name}: arguments {args}")
             body = turn_body(f, place, body)
-            fields = f.e["asked"].get(f.e["needs"][idx][1])
+            fields = (f.e["asked"].get(f.e["needs"][idx][1]) or f.e["asked"].get(f.e["needs"][idx][0]))
             if fields:
                 r = as_record(body, fields)
                 if r:
@@ -538,7 +538,7 @@ def turn(root, crate, key_folder, infos, report):
         if f.cycle and f.e["stem"] and not new.startswith(f.e["stem"]):
             new = f.e["stem"] + new
         body = turn_body(f, f.e["asked_at"][idx][0], body)
-        fields = f.e["asked"].get(f.e["needs"][idx][1])
+        fields = (f.e["asked"].get(f.e["needs"][idx][1]) or f.e["asked"].get(f.e["needs"][idx][0]))
         if fields:
             r = as_record(body, fields)
             if r:

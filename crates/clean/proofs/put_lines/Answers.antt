@@ -29,16 +29,15 @@ pub offset_bounds-places-i : goal.offset_bounds-places-i
 offset_bounds-places-i c = omega arith
 
 pub put_print-used-requires : goal.put_print-used-requires
-put_print-used-requires c =
-    ((c.requires.ready.0, c.requires.ready.1 c.loop-i.i c.loop-i-test.true), room-print c.requires.places_in_bounds c.loop-i.invariant c.loop-i-test.true (word-put b2))
+put_print-used-requires c = record { ready = (c.requires.ready.0, c.requires.ready.1 c.loop-i.i c.loop-i-test.true); i_in_bounds = room-print c.requires.places_in_bounds c.loop-i.invariant c.loop-i-test.true (word-put b2) }
 
 pub bounds-out-used : goal.bounds-out-used
 bounds-out-used c =
-    room-newline c.requires.places_in_bounds c.loop-i.invariant c.loop-i-test.true (word-put b5) c.put_print-used.ensures c.put_print-used.auto.1.1.1.1.0
+    room-newline c.requires.places_in_bounds c.loop-i.invariant c.loop-i-test.true (word-put b5) c.put_print-used.ensures c.put_print-used.auto.out
 
 pub overflow_add-used : goal.overflow_add-used
 overflow_add-used c =
-    let k = c.put_print-used.auto.1.1.1.1.0 in
+    let k = c.put_print-used.auto.out in
     let w = (word-put b5).long in
     let l = c.loop-i.invariant.long in
     let f = c.well_formed.1.1.1.1.0.0 in
@@ -47,7 +46,7 @@ overflow_add-used c =
 
 pub loop-i-preserved : goal.loop-i-preserved
 loop-i-preserved c =
-    lined-next c.requires.places_in_bounds c.loop-i.invariant c.loop-i-test.true (word-put b5) c.put_print-used.ensures c.put_print-used.auto.1.1.1.1.0
+    lined-next c.requires.places_in_bounds c.loop-i.invariant c.loop-i-test.true (word-put b5) c.put_print-used.ensures c.put_print-used.auto.out
 
 pub shape_of-out : goal.shape_of-out
 shape_of-out c = c.loop-i.invariant.long

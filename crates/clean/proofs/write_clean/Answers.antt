@@ -7,14 +7,6 @@ use Rattle.reader.proofs.ReadLaws.{words-within}
 use Rattle.clean.proofs.WriteLaws.{Given, measure-asked, table-ready, formulas-within, places-few, places-among, front-small, over-lines, over-text, over-store, front-room, lines-room, text-put}
 use Rattle.clean.proofs.write_clean.Goals as goal
 
-given : (c : goal.Start) → Given c.args.sheet.now c.args.r
-given c = record {
-  read = c.requires.0;
-  says = c.requires.1;
-  table-long = length_unmapped u64-field.Value c.args.r.members 136 c.well_formed.1.0.1.1.1.1.1.1.1.1.1.0.1.0.1;
-  places-long = length_unmapped usize-field.Value c.args.r.places 5 c.well_formed.1.0.1.1.1.1.1.1.1.0.1.0.1;
-}
-
 pub slice_bounds-words-end : goal.slice_bounds-words-end
 slice_bounds-words-end c =
     words-within c.requires.1
@@ -25,7 +17,13 @@ slice_bounds-measure-end-3 c =
 
 pub measure-requires : goal.measure-requires
 measure-requires c =
-    measure-asked (given b8) _ refl
+    let given : Given c.args.sheet.now c.args.r = record {
+  read = c.requires.0;
+  says = c.requires.1;
+  table-long = length_unmapped u64-field.Value c.args.r.members 136 c.well_formed.1.0.1.1.1.1.1.1.1.1.1.0.1.0.1;
+  places-long = length_unmapped usize-field.Value c.args.r.places 5 c.well_formed.1.0.1.1.1.1.1.1.1.0.1.0.1;
+} in
+    measure-asked (given) _ refl
 
 pub slice_bounds-words-end-2 : goal.slice_bounds-words-end-2
 slice_bounds-words-end-2 c =
@@ -37,26 +35,62 @@ slice_bounds-measure_lines-end-3 c =
 
 pub slice_bounds-places-end : goal.slice_bounds-places-end
 slice_bounds-places-end c =
-    formulas-within (given b14)
+    let given : Given c.args.sheet.now c.args.r = record {
+  read = c.requires.0;
+  says = c.requires.1;
+  table-long = length_unmapped u64-field.Value c.args.r.members 136 c.well_formed.1.0.1.1.1.1.1.1.1.1.1.0.1.0.1;
+  places-long = length_unmapped usize-field.Value c.args.r.places 5 c.well_formed.1.0.1.1.1.1.1.1.1.0.1.0.1;
+} in
+    formulas-within (given)
 
 pub slice_bounds-measure_lines-end-4 : goal.slice_bounds-measure_lines-end-4
 slice_bounds-measure_lines-end-4 c =
-    sym (length-take-le _ _ (formulas-within (given b15)))
+    let given : Given c.args.sheet.now c.args.r = record {
+  read = c.requires.0;
+  says = c.requires.1;
+  table-long = length_unmapped u64-field.Value c.args.r.members 136 c.well_formed.1.0.1.1.1.1.1.1.1.1.1.0.1.0.1;
+  places-long = length_unmapped usize-field.Value c.args.r.places 5 c.well_formed.1.0.1.1.1.1.1.1.1.0.1.0.1;
+} in
+    sym (length-take-le _ _ (formulas-within (given)))
 
 pub measure_lines-requires : goal.measure_lines-requires
-measure_lines-requires c = record { printable = (c.measure.ensures, places-among (given b15)); places_len_bound = (places-few (given b15), front-small (given b15) c.third_line-from.ensures) }
+measure_lines-requires c =
+    let given : Given c.args.sheet.now c.args.r = record {
+  read = c.requires.0;
+  says = c.requires.1;
+  table-long = length_unmapped u64-field.Value c.args.r.members 136 c.well_formed.1.0.1.1.1.1.1.1.1.1.1.0.1.0.1;
+  places-long = length_unmapped usize-field.Value c.args.r.places 5 c.well_formed.1.0.1.1.1.1.1.1.1.0.1.0.1;
+} in record { printable = (c.measure.ensures, places-among (given)); places_len_bound = (places-few (given), front-small (given) c.third_line-from.ensures) }
 
 pub returns-in_default : goal.returns-in_default
 returns-in_default c =
-    over-lines (given b18) c.third_line-from.ensures c.measure_lines.ensures c.in_default.is
+    let given : Given c.args.sheet.now c.args.r = record {
+  read = c.requires.0;
+  says = c.requires.1;
+  table-long = length_unmapped u64-field.Value c.args.r.members 136 c.well_formed.1.0.1.1.1.1.1.1.1.1.1.0.1.0.1;
+  places-long = length_unmapped usize-field.Value c.args.r.places 5 c.well_formed.1.0.1.1.1.1.1.1.1.0.1.0.1;
+} in
+    over-lines (given) c.third_line-from.ensures c.measure_lines.ensures c.in_default.is
 
 pub returns-then-size-gt1024 : goal.returns-then-size-gt1024
 returns-then-size-gt1024 c =
-    over-text (given b20) c.third_line-from.ensures c.measure_lines.ensures c.in-Bytes.is c.if-size-gt1024.true
+    let given : Given c.args.sheet.now c.args.r = record {
+  read = c.requires.0;
+  says = c.requires.1;
+  table-long = length_unmapped u64-field.Value c.args.r.members 136 c.well_formed.1.0.1.1.1.1.1.1.1.1.1.0.1.0.1;
+  places-long = length_unmapped usize-field.Value c.args.r.places 5 c.well_formed.1.0.1.1.1.1.1.1.1.0.1.0.1;
+} in
+    over-text (given) c.third_line-from.ensures c.measure_lines.ensures c.in-Bytes.is c.if-size-gt1024.true
 
 pub returns-then-store-size : goal.returns-then-store-size
 returns-then-store-size c =
-    over-store (given b21) c.third_line-from.ensures c.measure_lines.ensures c.in-Bytes.is c.if-size-gt1024.false c.if-store-size.true
+    let given : Given c.args.sheet.now c.args.r = record {
+  read = c.requires.0;
+  says = c.requires.1;
+  table-long = length_unmapped u64-field.Value c.args.r.members 136 c.well_formed.1.0.1.1.1.1.1.1.1.1.1.0.1.0.1;
+  places-long = length_unmapped usize-field.Value c.args.r.places 5 c.well_formed.1.0.1.1.1.1.1.1.1.0.1.0.1;
+} in
+    over-store (given) c.third_line-from.ensures c.measure_lines.ensures c.in-Bytes.is c.if-size-gt1024.false c.if-store-size.true
 
 pub slice_bounds-put-end : goal.slice_bounds-put-end
 slice_bounds-put-end c =
@@ -64,11 +98,23 @@ slice_bounds-put-end c =
 
 pub put-at-requires : goal.put-at-requires
 put-at-requires c =
-    front-room (given b23) c.third_line-from.ensures c.measure_lines.ensures c.in-Bytes.is c.if-store-size.false
+    let given : Given c.args.sheet.now c.args.r = record {
+  read = c.requires.0;
+  says = c.requires.1;
+  table-long = length_unmapped u64-field.Value c.args.r.members 136 c.well_formed.1.0.1.1.1.1.1.1.1.1.1.0.1.0.1;
+  places-long = length_unmapped usize-field.Value c.args.r.places 5 c.well_formed.1.0.1.1.1.1.1.1.1.0.1.0.1;
+} in
+    front-room (given) c.third_line-from.ensures c.measure_lines.ensures c.in-Bytes.is c.if-store-size.false
 
 pub slice_bounds-put_lines-end : goal.slice_bounds-put_lines-end
 slice_bounds-put_lines-end c =
-    sym (given b27).table-long
+    let given : Given c.args.sheet.now c.args.r = record {
+  read = c.requires.0;
+  says = c.requires.1;
+  table-long = length_unmapped u64-field.Value c.args.r.members 136 c.well_formed.1.0.1.1.1.1.1.1.1.1.1.0.1.0.1;
+  places-long = length_unmapped usize-field.Value c.args.r.places 5 c.well_formed.1.0.1.1.1.1.1.1.1.0.1.0.1;
+} in
+    sym (given).table-long
 
 pub slice_bounds-words-end-3 : goal.slice_bounds-words-end-3
 slice_bounds-words-end-3 c =
@@ -80,15 +126,39 @@ slice_bounds-put_lines-end-2 c =
 
 pub slice_bounds-places-end-2 : goal.slice_bounds-places-end-2
 slice_bounds-places-end-2 c =
-    formulas-within (given b28)
+    let given : Given c.args.sheet.now c.args.r = record {
+  read = c.requires.0;
+  says = c.requires.1;
+  table-long = length_unmapped u64-field.Value c.args.r.members 136 c.well_formed.1.0.1.1.1.1.1.1.1.1.1.0.1.0.1;
+  places-long = length_unmapped usize-field.Value c.args.r.places 5 c.well_formed.1.0.1.1.1.1.1.1.1.0.1.0.1;
+} in
+    formulas-within (given)
 
 pub slice_bounds-put_lines-end-3 : goal.slice_bounds-put_lines-end-3
 slice_bounds-put_lines-end-3 c =
-    sym (length-take-le _ _ (formulas-within (given b29)))
+    let given : Given c.args.sheet.now c.args.r = record {
+  read = c.requires.0;
+  says = c.requires.1;
+  table-long = length_unmapped u64-field.Value c.args.r.members 136 c.well_formed.1.0.1.1.1.1.1.1.1.1.1.0.1.0.1;
+  places-long = length_unmapped usize-field.Value c.args.r.places 5 c.well_formed.1.0.1.1.1.1.1.1.1.0.1.0.1;
+} in
+    sym (length-take-le _ _ (formulas-within (given)))
 
 pub put_lines-requires : goal.put_lines-requires
-put_lines-requires c = record { ready = (table-ready (given b30), places-among (given b30)); places_in_bounds = lines-room (given b30) c.third_line-from.ensures c.measure_lines.ensures c.in-Bytes.is c.put-at.ensures c.if-store-size.false c.put-at.auto.0 }
+put_lines-requires c =
+    let given : Given c.args.sheet.now c.args.r = record {
+  read = c.requires.0;
+  says = c.requires.1;
+  table-long = length_unmapped u64-field.Value c.args.r.members 136 c.well_formed.1.0.1.1.1.1.1.1.1.1.1.0.1.0.1;
+  places-long = length_unmapped usize-field.Value c.args.r.places 5 c.well_formed.1.0.1.1.1.1.1.1.1.0.1.0.1;
+} in record { ready = (table-ready (given), places-among (given)); places_in_bounds = lines-room (given) c.third_line-from.ensures c.measure_lines.ensures c.in-Bytes.is c.put-at.ensures c.if-store-size.false c.put-at.auto.out }
 
 pub returns : goal.returns
 returns c =
-    text-put (given b33) c.third_line-from.ensures c.measure_lines.ensures c.in-Bytes.is c.put-at.ensures c.if-store-size.false c.if-size-gt1024.false c.put_lines.ensures
+    let given : Given c.args.sheet.now c.args.r = record {
+  read = c.requires.0;
+  says = c.requires.1;
+  table-long = length_unmapped u64-field.Value c.args.r.members 136 c.well_formed.1.0.1.1.1.1.1.1.1.1.1.0.1.0.1;
+  places-long = length_unmapped usize-field.Value c.args.r.places 5 c.well_formed.1.0.1.1.1.1.1.1.1.0.1.0.1;
+} in
+    text-put (given) c.third_line-from.ensures c.measure_lines.ensures c.in-Bytes.is c.put-at.ensures c.if-store-size.false c.if-size-gt1024.false c.put_lines.ensures

@@ -1,4 +1,3 @@
-use Prim.Native.Nat.{◌-◌}
 use mathlib.Core.Path.{◌∙◌}
 use native.Mathlib.Omega.{arith}
 use Rattle.closure.proofs.CloseLaws.{loop-first, loop-ready, loop-reads, loop-room, loop-same, loop-same-places, loop-next, loop-beyond, loop-last}
@@ -20,7 +19,7 @@ positive-requires c =
 
 pub shape_of-tab-in_default : goal.shape_of-tab-in_default
 shape_of-tab-in_default c =
-    c.positive.auto.1.1.1.0 ∙ loop-same _ _ _ _ c.requires c.loop-k.invariant
+    c.positive.auto.tab ∙ loop-same _ _ _ _ c.requires c.loop-k.invariant
 
 pub shape_of-places-in_default : goal.shape_of-places-in_default
 shape_of-places-in_default c =
@@ -28,7 +27,7 @@ shape_of-places-in_default c =
 
 pub returns-in_default : goal.returns-in_default
 returns-in_default c =
-    loop-beyond _ _ _ _ c.requires c.loop-k.invariant c.loop-k-test.true c.positive.ensures c.positive.auto.1.1.1.0 c.in_default.is
+    loop-beyond _ _ _ _ c.requires c.loop-k.invariant c.loop-k-test.true c.positive.ensures c.positive.auto.tab c.in_default.is
 
 pub offset_bounds-places-k : goal.offset_bounds-places-k
 offset_bounds-places-k c =
@@ -40,7 +39,7 @@ bounds-places-k c =
 
 pub loop-k-preserved : goal.loop-k-preserved
 loop-k-preserved c =
-    loop-next _ _ _ _ c.requires c.loop-k.invariant c.loop-k-test.true c.positive.ensures c.positive.auto.1.1.1.0 c.in-At.is
+    loop-next _ _ _ _ c.requires c.loop-k.invariant c.loop-k-test.true c.positive.ensures c.positive.auto.tab c.in-At.is
 
 pub shape_of-tab : goal.shape_of-tab
 shape_of-tab c =

@@ -21,12 +21,12 @@ returns-in_default c =
 
 pub make-requires-3 : goal.make-requires-3
 make-requires-3 c =
-    asks-lit (ready-then c.requires.0 (was-added c.make-2.ensures c.in-At.is) c.make-2.auto.0) c.requires.1
+    asks-lit (ready-then c.requires.0 (was-added c.make-2.ensures c.in-At.is) c.make-2.auto.tab) c.requires.1
 
 pub returns-in_default-make : goal.returns-in_default-make
 returns-in_default-make c =
-    letter-full-2 _ _ c.requires.0 (was-added c.make-2.ensures c.in-At.is) c.make-2.auto.0 c.if-sign.false c.make-3.ensures c.in_default-make.is
+    letter-full-2 _ _ c.requires.0 (was-added c.make-2.ensures c.in-At.is) c.make-2.auto.tab c.if-sign.false c.make-3.ensures c.in_default-make.is
 
 pub returns : goal.returns
 returns c =
-    letter-last _ _ c.requires.0 (was-added c.make-2.ensures c.in-At.is) c.make-2.auto.0 c.if-sign.false c.make-3.ensures c.in-At-make.is
+    letter-last _ _ c.requires.0 (was-added c.make-2.ensures c.in-At.is) c.make-2.auto.tab c.if-sign.false c.make-3.ensures c.in-At-make.is

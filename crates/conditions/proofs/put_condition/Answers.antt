@@ -31,7 +31,7 @@ put_entry-requires-2 c =
     let f = c.if-f-eq8.false in
     let i = o.1 (let x = o.0 in omega (arith, f)) in
     let r = c.requires.truths.0.room in
-    let k = c.put_entry.auto.1.1.1.1.1.0 in
+    let k = c.put_entry.auto.cw in
     (block-fits _ _ _ _ i.0 r, block-fits _ _ _ _ i.1 r, (let z = c.requires.truths.1.0 in omega arith), c.requires.truths.1.1.0, (let l = c.requires.truths.1.1.1 in omega arith))
 
 pub returns-then-not-put_entry-2 : goal.returns-then-not-put_entry-2
@@ -60,8 +60,8 @@ pub bounds-cw-at : goal.bounds-cw-at
 bounds-cw-at c =
     let o = c.condition_at-d.ensures.inside.0 in
     let h = c.requires.truths.1.0 in
-    let k = c.put_entry.auto.1.1.1.1.1.0 in
-    let l = c.put_entry-2.auto.1.1.1.1.1.0 in
+    let k = c.put_entry.auto.cw in
+    let l = c.put_entry-2.auto.cw in
     omega arith
 
 pub overflow_shl-cw : goal.overflow_shl-cw
@@ -79,18 +79,18 @@ pub bounds-cw-at-2 : goal.bounds-cw-at-2
 bounds-cw-at-2 c =
     let o = c.condition_at-d.ensures.inside.0 in
     let h = c.requires.truths.1.0 in
-    let k = c.put_entry.auto.1.1.1.1.1.0 in
-    let l = c.put_entry-2.auto.1.1.1.1.1.0 in
+    let k = c.put_entry.auto.cw in
+    let l = c.put_entry-2.auto.cw in
     omega arith
 
 pub shape_of-cw : goal.shape_of-cw
 shape_of-cw c =
     let cw = c.put_entry-2.new.cw in
     let at : ℕ = c.args.w * 64 + c.condition_at-d.result.field in
-    length-set {A = ℕ} cw at (bit_or (get_or cw at 0) ((1 * 2 ^ c.args.c) % 2 ^ 64)) ∙ c.put_entry-2.auto.1.1.1.1.1.0 ∙ c.put_entry.auto.1.1.1.1.1.0
+    length-set {A = ℕ} cw at (bit_or (get_or cw at 0) ((1 * 2 ^ c.args.c) % 2 ^ 64)) ∙ c.put_entry-2.auto.cw ∙ c.put_entry.auto.cw
 
 pub returns : goal.returns
 returns c =
-    let k = c.put_entry.auto.1.1.1.1.1.0 in
-    let l = c.put_entry-2.auto.1.1.1.1.1.0 in
+    let k = c.put_entry.auto.cw in
+    let l = c.put_entry-2.auto.cw in
     side-joins c.requires.truths.1.1.1 c.condition_at-d.ensures c.requires.truths.0 c.if-f-eq8.false c.reversed.ensures c.put_entry.ensures.put c.put_entry-2.ensures.put (let z = c.requires.truths.1.0 in omega arith)

@@ -21,7 +21,7 @@ loop-c-init c =
 pub put_condition-requires : goal.put_condition-requires
 put_condition-requires c =
     let g = c.loop-c.invariant in
-    let l = c.loop-c-test.true in record { table = (c.requires.table.0, (c.requires.table.1.0, omega arith)); truths = (c.requires.truths.0, ((let r = c.requires.truths.1.0 in let e = g.long in let k = c.clear_sides.auto.0 in omega arith), (c.requires.truths.1.1, (let h = c.requires.table.1.1 in omega arith)))) }
+    let l = c.loop-c-test.true in record { table = (c.requires.table.0, (c.requires.table.1.0, omega arith)); truths = (c.requires.truths.0, ((let r = c.requires.truths.1.0 in let e = g.long in let k = c.clear_sides.auto.cw in omega arith), (c.requires.truths.1.1, (let h = c.requires.table.1.1 in omega arith)))) }
 
 pub overflow_add-c : goal.overflow_add-c
 overflow_add-c c =
@@ -37,11 +37,11 @@ loop-c-smaller c =
 
 pub loop-c-preserved : goal.loop-c-preserved
 loop-c-preserved c =
-    going_on c.loop-c.invariant c.put_condition.auto.1.1.1.1.0 c.loop-c-test.true c.put_condition.ensures
+    going_on c.loop-c.invariant c.put_condition.auto.cw c.loop-c-test.true c.put_condition.ensures
 
 pub shape_of-cw : goal.shape_of-cw
 shape_of-cw c =
-    c.loop-c.invariant.long ∙ c.clear_sides.auto.0
+    c.loop-c.invariant.long ∙ c.clear_sides.auto.cw
 
 pub returns : goal.returns
 returns c =

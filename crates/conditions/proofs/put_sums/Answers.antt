@@ -5,7 +5,7 @@ use Rattle.conditions.proofs.put_sums.Goals as goal
 
 pub loop-m-preserved : goal.loop-m-preserved
 loop-m-preserved c =
-    sum-on c.loop-m.invariant c.loop-m-test.true c.requires.by_index c.put_sum.auto.0 c.put_sum.ensures
+    sum-on c.loop-m.invariant c.loop-m-test.true c.requires.by_index c.put_sum.auto.cw c.put_sum.ensures
 
 pub returns : goal.returns
 returns c = sum-end c.loop-m.invariant (omega arith)

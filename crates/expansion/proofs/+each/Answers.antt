@@ -50,18 +50,18 @@ bit-requires-2 t c =
 pub next_one-requires-2 : goal.next_one-requires-2
 next_one-requires-2 t c =
     let d = was-added c.each-2.ensures c.in-At.is in
-    (ready-then c.requires.0 d c.each-2.auto.0, (c.bit-2.ensures.1, omega (arith, d.up, c.requires.1.0)))
+    (ready-then c.requires.0 d c.each-2.auto.tab, (c.bit-2.ensures.1, omega (arith, d.up, c.requires.1.0)))
 
 pub returns-in_default-next_one : goal.returns-in_default-next_one
 returns-in_default-next_one t c =
-    each-full-2 _ _ _ _ _ _ (mode-below _ _ c.requires.1.1.0 c.requires.1.1.1.0 c.requires.1.1.1.1) (omega (arith, c.if-rest-eq0.false)) (omega (arith, c.if-rest-eq0.false, c.if-rest-eq1.false, c.requires.1.1.1.0)) c.requires.1.1.1.1 c.requires.0 (was-added c.each-2.ensures c.in-At.is) c.each-2.auto.0 _ _ c.bit-2.ensures.0 c.requires.1.0 refl c.next_one-2.ensures c.in_default-next_one.is
+    each-full-2 _ _ _ _ _ _ (mode-below _ _ c.requires.1.1.0 c.requires.1.1.1.0 c.requires.1.1.1.1) (omega (arith, c.if-rest-eq0.false)) (omega (arith, c.if-rest-eq0.false, c.if-rest-eq1.false, c.requires.1.1.1.0)) c.requires.1.1.1.1 c.requires.0 (was-added c.each-2.ensures c.in-At.is) c.each-2.auto.tab _ _ c.bit-2.ensures.0 c.requires.1.0 refl c.next_one-2.ensures c.in_default-next_one.is
 
 pub join-requires : goal.join-requires
 join-requires t c =
     let d = was-added c.each-2.ensures c.in-At.is in
     let e = was-added c.next_one-2.ensures c.in-At-next_one.is in
-    (ready-then (ready-then c.requires.0 d c.each-2.auto.0) e c.next_one-2.auto.0, (e.below, omega (arith, d.below, e.up)))
+    (ready-then (ready-then c.requires.0 d c.each-2.auto.tab) e c.next_one-2.auto.tab, (e.below, omega (arith, d.below, e.up)))
 
 pub returns : goal.returns
 returns t c =
-    each-join _ _ _ _ _ _ (mode-below _ _ c.requires.1.1.0 c.requires.1.1.1.0 c.requires.1.1.1.1) (omega (arith, c.if-rest-eq0.false)) (omega (arith, c.if-rest-eq0.false, c.if-rest-eq1.false, c.requires.1.1.1.0)) c.requires.1.1.1.1 c.requires.0 (was-added c.each-2.ensures c.in-At.is) c.each-2.auto.0 _ _ c.bit-2.ensures.0 c.requires.1.0 refl (was-added c.next_one-2.ensures c.in-At-next_one.is) c.next_one-2.auto.0 c.join.ensures
+    each-join _ _ _ _ _ _ (mode-below _ _ c.requires.1.1.0 c.requires.1.1.1.0 c.requires.1.1.1.1) (omega (arith, c.if-rest-eq0.false)) (omega (arith, c.if-rest-eq0.false, c.if-rest-eq1.false, c.requires.1.1.1.0)) c.requires.1.1.1.1 c.requires.0 (was-added c.each-2.ensures c.in-At.is) c.each-2.auto.tab _ _ c.bit-2.ensures.0 c.requires.1.0 refl (was-added c.next_one-2.ensures c.in-At-next_one.is) c.next_one-2.auto.tab c.join.ensures

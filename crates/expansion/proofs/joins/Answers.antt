@@ -11,8 +11,8 @@ returns-in_default c =
 pub join-requires-2 : goal.join-requires-2
 join-requires-2 c =
     let d = was-added c.join.ensures c.in-At.is in
-    (ready-then c.requires.0 d c.join.auto.0, (omega (arith, d.up, c.requires.1.1.0), d.below))
+    (ready-then c.requires.0 d c.join.auto.tab, (omega (arith, d.up, c.requires.1.1.0), d.below))
 
 pub returns : goal.returns
 returns c =
-    joins-last _ _ c.requires.0 c.args.some c.args.left c.args.right c.args.x c.requires.1.0 c.requires.1.1.0 (was-added c.join.ensures c.in-At.is) c.join.auto.0 c.join-2.ensures
+    joins-last _ _ c.requires.0 c.args.some c.args.left c.args.right c.args.x c.requires.1.0 c.requires.1.1.0 (was-added c.join.ensures c.in-At.is) c.join.auto.tab c.join-2.ensures

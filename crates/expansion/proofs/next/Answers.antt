@@ -10,26 +10,26 @@ returns-in_default c =
 
 pub unit-requires : goal.unit-requires
 unit-requires c =
-    ready-then c.requires.0 (was-added c.next_one.ensures c.in-At.is) c.next_one.auto.0
+    ready-then c.requires.0 (was-added c.next_one.ensures c.in-At.is) c.next_one.auto.tab
 
 pub returns-in_default-unit : goal.returns-in_default-unit
 returns-in_default-unit c =
-    next-none-full _ _ _ c.requires.1.1 c.requires.0 (was-added c.next_one.ensures c.in-At.is) c.next_one.auto.0 c.if-mask-eq0.true c.unit.ensures c.in_default-unit.is
+    next-none-full _ _ _ c.requires.1.1 c.requires.0 (was-added c.next_one.ensures c.in-At.is) c.next_one.auto.tab c.if-mask-eq0.true c.unit.ensures c.in_default-unit.is
 
 pub returns-then-mask-eq0 : goal.returns-then-mask-eq0
 returns-then-mask-eq0 c =
-    next-none _ _ _ c.requires.1.1 c.requires.0 (was-added c.next_one.ensures c.in-At.is) c.next_one.auto.0 c.if-mask-eq0.true c.unit.ensures c.in-At-unit.is
+    next-none _ _ _ c.requires.1.1 c.requires.0 (was-added c.next_one.ensures c.in-At.is) c.next_one.auto.tab c.if-mask-eq0.true c.unit.ensures c.in-At-unit.is
 
 pub each-requires : goal.each-requires
 each-requires c =
     let d = was-added c.next_one.ensures c.in-At.is in
     let o = c.first_mode-m.ensures.1.0 (omega (arith, c.if-mask-eq0.false)) in
-    (ready-then c.requires.0 d c.next_one.auto.0, (omega (arith, d.up, c.requires.1.1), (c.first_mode-m.ensures.0.0, (omega arith, c.first_mode-m.ensures.0.1))))
+    (ready-then c.requires.0 d c.next_one.auto.tab, (omega (arith, d.up, c.requires.1.1), (c.first_mode-m.ensures.0.0, (omega arith, c.first_mode-m.ensures.0.1))))
 
 pub returns-in_default-each : goal.returns-in_default-each
 returns-in_default-each c =
-    next-some-full _ _ _ c.requires.1.1 c.requires.0 (was-added c.next_one.ensures c.in-At.is) c.next_one.auto.0 (rw c.first_mode-m.ensures.1.1 at c.each.ensures) c.in_default-each.is
+    next-some-full _ _ _ c.requires.1.1 c.requires.0 (was-added c.next_one.ensures c.in-At.is) c.next_one.auto.tab (rw c.first_mode-m.ensures.1.1 at c.each.ensures) c.in_default-each.is
 
 pub returns : goal.returns
 returns c =
-    next-some _ _ _ c.requires.1.1 c.requires.0 (was-added c.next_one.ensures c.in-At.is) c.next_one.auto.0 (rw c.first_mode-m.ensures.1.1 at c.each.ensures) c.in-At-each.is
+    next-some _ _ _ c.requires.1.1 c.requires.0 (was-added c.next_one.ensures c.in-At.is) c.next_one.auto.tab (rw c.first_mode-m.ensures.1.1 at c.each.ensures) c.in-At-each.is

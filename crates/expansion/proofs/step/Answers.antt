@@ -10,30 +10,30 @@ returns-in_default c =
 
 pub next-requires : goal.next-requires
 next-requires c =
-    let s = step_then c.requires.0 c.unit.ensures c.in-At.is c.unit.auto.0 in
+    let s = step_then c.requires.0 c.unit.ensures c.in-At.is c.unit.auto.tab in
     (s.ready, (c.requires.1.0, s.below))
 
 pub returns-in_default-next : goal.returns-in_default-next
 returns-in_default-next c =
-    step-full-2 _ _ c.requires.0 c.args.some c.args.mask c.args.whole c.requires.1.1 c.unit.ensures c.in-At.is c.unit.auto.0 c.next.ensures c.in_default-next.is
+    step-full-2 _ _ c.requires.0 c.args.some c.args.mask c.args.whole c.requires.1.1 c.unit.ensures c.in-At.is c.unit.auto.tab c.next.ensures c.in_default-next.is
 
 pub next-requires-2 : goal.next-requires-2
 next-requires-2 c =
-    let s = step_then c.requires.0 c.unit.ensures c.in-At.is c.unit.auto.0 in
-    let t = step_then s.ready c.next.ensures c.in-At-next.is c.next.auto.0 in
+    let s = step_then c.requires.0 c.unit.ensures c.in-At.is c.unit.auto.tab in
+    let t = step_then s.ready c.next.ensures c.in-At-next.is c.next.auto.tab in
     (t.ready, (c.requires.1.0, omega (arith, s.up, t.up, c.requires.1.1)))
 
 pub returns-in_default-next-2 : goal.returns-in_default-next-2
 returns-in_default-next-2 c =
-    step-full-3 _ _ c.requires.0 c.args.some c.args.mask c.args.whole c.requires.1.1 c.unit.ensures c.in-At.is c.unit.auto.0 c.next.ensures c.in-At-next.is c.next.auto.0 c.next-2.ensures c.in_default-next-2.is
+    step-full-3 _ _ c.requires.0 c.args.some c.args.mask c.args.whole c.requires.1.1 c.unit.ensures c.in-At.is c.unit.auto.tab c.next.ensures c.in-At-next.is c.next.auto.tab c.next-2.ensures c.in_default-next-2.is
 
 pub join-requires : goal.join-requires
 join-requires c =
-    let s = step_then c.requires.0 c.unit.ensures c.in-At.is c.unit.auto.0 in
-    let t = step_then s.ready c.next.ensures c.in-At-next.is c.next.auto.0 in
-    let u = step_then t.ready c.next-2.ensures c.in-At-next-2.is c.next-2.auto.0 in
+    let s = step_then c.requires.0 c.unit.ensures c.in-At.is c.unit.auto.tab in
+    let t = step_then s.ready c.next.ensures c.in-At-next.is c.next.auto.tab in
+    let u = step_then t.ready c.next-2.ensures c.in-At-next-2.is c.next-2.auto.tab in
     (u.ready, (omega (arith, t.below, u.up), u.below))
 
 pub returns : goal.returns
 returns c =
-    step-last _ _ c.requires.0 c.args.some c.args.mask c.args.whole c.requires.1.1 c.unit.ensures c.in-At.is c.unit.auto.0 c.next.ensures c.in-At-next.is c.next.auto.0 c.next-2.ensures c.in-At-next-2.is c.next-2.auto.0 c.join.ensures
+    step-last _ _ c.requires.0 c.args.some c.args.mask c.args.whole c.requires.1.1 c.unit.ensures c.in-At.is c.unit.auto.tab c.next.ensures c.in-At-next.is c.next.auto.tab c.next-2.ensures c.in-At-next-2.is c.next-2.auto.tab c.join.ensures

@@ -10,23 +10,23 @@ returns-in_default c =
 
 pub step-requires : goal.step-requires
 step-requires c =
-    let s = step_then c.requires.0 c.strong_one.ensures c.in-At.is c.strong_one.auto.0 in
+    let s = step_then c.requires.0 c.strong_one.ensures c.in-At.is c.strong_one.auto.tab in
     (s.ready, (c.requires.1.0, s.below))
 
 pub returns-in_default-step : goal.returns-in_default-step
 returns-in_default-step c =
-    strong-full-2 _ _ c.requires.0 c.args.some c.args.mask c.args.left c.args.right c.requires.1.1.0 c.requires.1.1.1 c.strong_one.ensures c.in-At.is c.strong_one.auto.0 c.step.ensures c.in_default-step.is
+    strong-full-2 _ _ c.requires.0 c.args.some c.args.mask c.args.left c.args.right c.requires.1.1.0 c.requires.1.1.1 c.strong_one.ensures c.in-At.is c.strong_one.auto.tab c.step.ensures c.in_default-step.is
 
 pub joins-requires : goal.joins-requires
 joins-requires c =
-    let s = step_then c.requires.0 c.strong_one.ensures c.in-At.is c.strong_one.auto.0 in
-    let t = step_then s.ready c.step.ensures c.in-At-step.is c.step.auto.0 in
+    let s = step_then c.requires.0 c.strong_one.ensures c.in-At.is c.strong_one.auto.tab in
+    let t = step_then s.ready c.step.ensures c.in-At-step.is c.step.auto.tab in
     (t.ready, (omega (arith, s.up, t.up, c.requires.1.1.0), (omega (arith, s.up, t.up, c.requires.1.1.1), t.below)))
 
 pub returns-in_default-joins : goal.returns-in_default-joins
 returns-in_default-joins c =
-    strong-full-3 _ _ c.requires.0 c.args.some c.args.mask c.args.left c.args.right c.requires.1.1.0 c.requires.1.1.1 c.strong_one.ensures c.in-At.is c.strong_one.auto.0 c.step.ensures c.in-At-step.is c.step.auto.0 c.joins.ensures c.in_default-joins.is
+    strong-full-3 _ _ c.requires.0 c.args.some c.args.mask c.args.left c.args.right c.requires.1.1.0 c.requires.1.1.1 c.strong_one.ensures c.in-At.is c.strong_one.auto.tab c.step.ensures c.in-At-step.is c.step.auto.tab c.joins.ensures c.in_default-joins.is
 
 pub returns : goal.returns
 returns c =
-    strong-last _ _ c.requires.0 c.args.some c.args.mask c.args.left c.args.right c.requires.1.1.0 c.requires.1.1.1 c.strong_one.ensures c.in-At.is c.strong_one.auto.0 c.step.ensures c.in-At-step.is c.step.auto.0 c.joins.ensures c.in-At-joins.is
+    strong-last _ _ c.requires.0 c.args.some c.args.mask c.args.left c.args.right c.requires.1.1.0 c.requires.1.1.1 c.strong_one.ensures c.in-At.is c.strong_one.auto.tab c.step.ensures c.in-At-step.is c.step.auto.tab c.joins.ensures c.in-At-joins.is

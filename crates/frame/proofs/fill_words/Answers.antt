@@ -9,7 +9,7 @@ pub truth_words-requires : goal.truth_words-requires
 truth_words-requires c = record { table = c.requires.sound.0.table; leans = c.requires.sound.0.leans; w_in_bounds = (let a = c.requires.w_bound.1.blocks in omega (arith, a, add-mul (length c.args.ms.now) 9 c.args.w)) }
 
 pub field_words-requires : goal.field_words-requires
-field_words-requires c = record { truths = c.truth_words.ensures; w_in_bounds = ((let k = c.truth_words.auto.1.1.0 in let h = c.requires.w_bound.1.blocks in omega arith), (let w = c.requires.w_bound.0 in omega arith)) }
+field_words-requires c = record { truths = c.truth_words.ensures; w_in_bounds = ((let k = c.truth_words.auto.tw in let h = c.requires.w_bound.1.blocks in omega arith), (let w = c.requires.w_bound.0 in omega arith)) }
 
 pub condition_words-requires : goal.condition_words-requires
 condition_words-requires c = record { table = (c.requires.sound.0.table, (c.requires.sound.0.leans, (c.requires.sound.0.places, c.requires.sound.0.narrow))); truths = (c.field_words.ensures.truths_2, (c.requires.w_bound.1.entries, (let w = c.requires.w_bound.0 in omega arith))) }

@@ -48,4 +48,4 @@ frame_of-f-requires c =
 
 pub returns : goal.returns
 returns c =
-    setup-accepted c.read-reading.ensures c.number-k.ensures c.if-k-ne0.false (length_unmapped usize-field.Value c.read-reading.result.places 5 c.read-reading.type-inv.1.1.1.1.1.1.1.0.1.0.1) c.frame_of-f.ensures c.frame_of-f.auto.1.1.1.1.0 c.frame_of-f.auto.1.1.1.1.1.0 c.frame_of-f.auto.1.1.1.1.1.1.0
+    setup-accepted c.read-reading.ensures c.number-k.ensures c.if-k-ne0.false (length_unmapped usize-field.Value c.read-reading.result.places 5 c.read-reading.type-inv.1.1.1.1.1.1.1.0.1.0.1) c.frame_of-f.ensures c.frame_of-f.auto.globals c.frame_of-f.auto.names c.frame_of-f.auto.values

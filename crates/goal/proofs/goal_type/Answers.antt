@@ -14,38 +14,25 @@ use Rattle.truth.proofs.BlockLaws.{block-fits}
 use Rattle.goal.proofs.GoalWords.{first_found, first-none}
 use Rattle.goal.proofs.goal_type.Goals as goal
 
-at-goal : (c : goal.Start) → c.args.goal * c.args.w + c.args.w ≤ length c.args.tw.now
-at-goal c = block-fits _ _ _ _ c.requires.goal_in_bounds.0 c.requires.truths.room
-
-abbrev start : goal.Then-x-ne0 → goal.Start
-start c = c.before.before.before.before.before
-
-abbrev zeros : goal.Then-x-ne0 → ℕ
-zeros c = count_trailing_zeros 64 (bit_and (get_or (start c).args.ws.now c.loop-k.k 0) (get_or (start c).args.tw.now ((start c).args.goal * (start c).args.w + c.loop-k.k) 0))
-
-found : (c : goal.Then-x-ne0)
-    → (zeros c < 64)
-    × (c.loop-k.k * 64 + zeros c ≡ least ((start c).args.w * 64) (λ t. member (start c).args.ws.now t && true_at (start c).args.ms.now (start c).args.ln.now (start c).args.goal t))
-found c =
-    least-found
-    (and-answers ((word-answers _ _ (c.type_inv.ws _).fits)) (((start c).requires.0.words _ (start c).requires.1.0 _ c.loop-k-test.true)))
-    c.loop-k.invariant c.loop-k-test.true c.if-x-ne0.true
-
 pub overflow_mul-x : goal.overflow_mul-x
 overflow_mul-x c =
-    (let b = at-goal b3 in omega arith)
+    let at-goal : c.args.goal * c.args.w + c.args.w ≤ length c.args.tw.now = block-fits _ _ _ _ c.requires.goal_in_bounds.0 c.requires.truths.room in
+    (let b = at-goal in omega arith)
 
 pub overflow_add-x : goal.overflow_add-x
 overflow_add-x c =
-    (let b = at-goal b3 in omega arith)
+    let at-goal : c.args.goal * c.args.w + c.args.w ≤ length c.args.tw.now = block-fits _ _ _ _ c.requires.goal_in_bounds.0 c.requires.truths.room in
+    (let b = at-goal in omega arith)
 
 pub offset_bounds-tw-goal : goal.offset_bounds-tw-goal
 offset_bounds-tw-goal c =
-    (let b = at-goal b3 in omega arith)
+    let at-goal : c.args.goal * c.args.w + c.args.w ≤ length c.args.tw.now = block-fits _ _ _ _ c.requires.goal_in_bounds.0 c.requires.truths.room in
+    (let b = at-goal in omega arith)
 
 pub bounds-tw-goal : goal.bounds-tw-goal
 bounds-tw-goal c =
-    (let b = at-goal b4 in omega arith)
+    let at-goal : c.args.goal * c.args.w + c.args.w ≤ length c.args.tw.now = block-fits _ _ _ _ c.requires.goal_in_bounds.0 c.requires.truths.room in
+    (let b = at-goal in omega arith)
 
 pub overflow_mul-result : goal.overflow_mul-result
 overflow_mul-result c =
@@ -53,10 +40,18 @@ overflow_mul-result c =
 
 pub overflow_add-result : goal.overflow_add-result
 overflow_add-result c =
-    omega (arith, (found c).0, c.requires.goal_in_bounds.2)
+    let found : ((count_trailing_zeros 64 (bit_and (get_or c.args.ws.now c.loop-k.k 0) (get_or c.args.tw.now (c.args.goal * c.args.w + c.loop-k.k) 0))) < 64)
+    × (c.loop-k.k * 64 + (count_trailing_zeros 64 (bit_and (get_or c.args.ws.now c.loop-k.k 0) (get_or c.args.tw.now (c.args.goal * c.args.w + c.loop-k.k) 0))) ≡ least (c.args.w * 64) (λ t. member c.args.ws.now t && true_at c.args.ms.now c.args.ln.now c.args.goal t)) = least-found
+    (and-answers ((word-answers _ _ (c.type_inv.ws _).fits)) ((c.requires.truths.words _ c.requires.goal_in_bounds.0 _ c.loop-k-test.true)))
+    c.loop-k.invariant c.loop-k-test.true c.if-x-ne0.true in
+    omega (arith, (found).0, c.requires.goal_in_bounds.2)
 
 pub returns-then-x-ne0 : goal.returns-then-x-ne0
-returns-then-x-ne0 c = (let f = (found c).0 in first_found _ _ _ _ (omega arith) (found c).1)
+returns-then-x-ne0 c =
+    let found : ((count_trailing_zeros 64 (bit_and (get_or c.args.ws.now c.loop-k.k 0) (get_or c.args.tw.now (c.args.goal * c.args.w + c.loop-k.k) 0))) < 64)
+    × (c.loop-k.k * 64 + (count_trailing_zeros 64 (bit_and (get_or c.args.ws.now c.loop-k.k 0) (get_or c.args.tw.now (c.args.goal * c.args.w + c.loop-k.k) 0))) ≡ least (c.args.w * 64) (λ t. member c.args.ws.now t && true_at c.args.ms.now c.args.ln.now c.args.goal t)) = least-found
+    (and-answers ((word-answers _ _ (c.type_inv.ws _).fits)) ((c.requires.truths.words _ c.requires.goal_in_bounds.0 _ c.loop-k-test.true)))
+    c.loop-k.invariant c.loop-k-test.true c.if-x-ne0.true in (let f = (found).0 in first_found _ _ _ _ (omega arith) (found).1)
 
 pub loop-k-preserved : goal.loop-k-preserved
 loop-k-preserved c =
@@ -70,4 +65,8 @@ pub loop-k-init : goal.loop-k-init
 loop-k-init c = none-start
 
 pub overflow_cast-result : goal.overflow_cast-result
-overflow_cast-result c = omega (arith, (found c).0)
+overflow_cast-result c =
+    let found : ((count_trailing_zeros 64 (bit_and (get_or c.args.ws.now c.loop-k.k 0) (get_or c.args.tw.now (c.args.goal * c.args.w + c.loop-k.k) 0))) < 64)
+    × (c.loop-k.k * 64 + (count_trailing_zeros 64 (bit_and (get_or c.args.ws.now c.loop-k.k 0) (get_or c.args.tw.now (c.args.goal * c.args.w + c.loop-k.k) 0))) ≡ least (c.args.w * 64) (λ t. member c.args.ws.now t && true_at c.args.ms.now c.args.ln.now c.args.goal t)) = least-found
+    (and-answers ((word-answers _ _ (c.type_inv.ws _).fits)) ((c.requires.truths.words _ c.requires.goal_in_bounds.0 _ c.loop-k-test.true)))
+    c.loop-k.invariant c.loop-k-test.true c.if-x-ne0.true in omega (arith, (found).0)

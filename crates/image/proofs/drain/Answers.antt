@@ -28,7 +28,7 @@ keep_some-requires c =
 
 pub shape_of-dst-then-not-keep_some : goal.shape_of-dst-then-not-keep_some
 shape_of-dst-then-not-keep_some c =
-    c.keep_some.auto.0 ∙ c.loop-a.invariant.long
+    c.keep_some.auto.dst ∙ c.loop-a.invariant.long
 
 pub shape_of-rest-then-not-keep_some : goal.shape_of-rest-then-not-keep_some
 shape_of-rest-then-not-keep_some c =
@@ -36,8 +36,8 @@ shape_of-rest-then-not-keep_some c =
 
 pub returns-then-not-keep_some : goal.returns-then-not-keep_some
 returns-then-not-keep_some c =
-    (let e = sym c.keep_some.ensures.some ∙ not-true _ c.if-not-keep_some.true-raw in
-    (drain-empty c.loop-a.invariant _ c.partners.ensures _ c.keep_some.ensures.is e, λ f. any_false _ _ e))
+    let e = sym c.keep_some.ensures.some ∙ not-true _ c.if-not-keep_some.true-raw in
+    record { by_index = drain-empty c.loop-a.invariant _ c.partners.ensures _ c.keep_some.ensures.is e; t_after = λ f. any_false _ _ e }
 
 pub keep_lacking-requires : goal.keep_lacking-requires
 keep_lacking-requires c =
@@ -45,27 +45,25 @@ keep_lacking-requires c =
 
 pub shape_of-dst-then-not-keep_lacking : goal.shape_of-dst-then-not-keep_lacking
 shape_of-dst-then-not-keep_lacking c =
-    c.keep_some.auto.0 ∙ c.loop-a.invariant.long
+    c.keep_some.auto.dst ∙ c.loop-a.invariant.long
 
 pub shape_of-rest-then-not-keep_lacking : goal.shape_of-rest-then-not-keep_lacking
 shape_of-rest-then-not-keep_lacking c =
-    c.keep_lacking.auto.0 ∙ c.loop-a.invariant.long_rest
+    c.keep_lacking.auto.dst ∙ c.loop-a.invariant.long_rest
 
 pub returns-then-not-keep_lacking : goal.returns-then-not-keep_lacking
-returns-then-not-keep_lacking c =
-    (drain_rest c.loop-a.invariant _ c.partners.ensures _ c.keep_some.ensures.is _ c.keep_lacking.ensures.is (sym c.keep_lacking.ensures.some ∙ not-true _ c.if-not-keep_lacking.true-raw), λ e. absurd (true≢false e))
+returns-then-not-keep_lacking c = record { by_index = drain_rest c.loop-a.invariant _ c.partners.ensures _ c.keep_some.ensures.is _ c.keep_lacking.ensures.is (sym c.keep_lacking.ensures.some ∙ not-true _ c.if-not-keep_lacking.true-raw); t_after = λ e. absurd (true≢false e) }
 
 pub first-p-requires : goal.first-p-requires
 first-p-requires c =
-    ((let m = c.keep_lacking.auto.0 in let l = c.loop-a.invariant.long_rest in let h = c.requires.3 in omega arith), (let g = c.requires.1 in omega arith))
+    ((let m = c.keep_lacking.auto.dst in let l = c.loop-a.invariant.long_rest in let h = c.requires.3 in omega arith), (let g = c.requires.1 in omega arith))
 
 pub refusal_set-requires : goal.refusal_set-requires
 refusal_set-requires c =
     (let l = first_some _ _ c.first-p.ensures (sym c.keep_lacking.ensures.some ∙ not-false _ c.if-not-keep_lacking.false-raw) in (c.requires.0, omega arith, omega arith))
 
 pub smaller-r-requires : goal.smaller-r-requires
-smaller-r-requires c =
-    ((c.requires.0, c.requires.1, (let m = c.keep_lacking.auto.0 in let l = c.loop-a.invariant.long_rest in let h = c.requires.3 in omega arith)), first-own c.first-p.ensures (first_some _ _ c.first-p.ensures (sym c.keep_lacking.ensures.some ∙ not-false _ c.if-not-keep_lacking.false-raw)) c.refusal_set.ensures)
+smaller-r-requires c = record { w_in_bounds = (c.requires.0, c.requires.1, (let m = c.keep_lacking.auto.dst in let l = c.loop-a.invariant.long_rest in let h = c.requires.3 in omega arith)); refused = first-own c.first-p.ensures (first_some _ _ c.first-p.ensures (sym c.keep_lacking.ensures.some ∙ not-false _ c.if-not-keep_lacking.false-raw)) c.refusal_set.ensures }
 
 pub loop-a-smaller : goal.loop-a-smaller
 loop-a-smaller c =
@@ -73,13 +71,13 @@ loop-a-smaller c =
 
 pub loop-a-preserved : goal.loop-a-preserved
 loop-a-preserved c =
-    drain-on c.loop-a.invariant _ c.partners.ensures _ c.keep_some.ensures.is _ c.keep_lacking.ensures.is c.keep_some.auto.0 c.keep_lacking.auto.0 c.smaller-r.ensures
+    drain-on c.loop-a.invariant _ c.partners.ensures _ c.keep_some.ensures.is _ c.keep_lacking.ensures.is c.keep_some.auto.dst c.keep_lacking.auto.dst c.smaller-r.ensures
 
 pub shape_of-rest-then-q-w : goal.shape_of-rest-then-q-w
 shape_of-rest-then-q-w c = refl
 
 pub returns-then-q-w : goal.returns-then-q-w
-returns-then-q-w c = (drain-none _ _ _ _ _ c.first-q.ensures c.if-q-w.true, λ e. absurd (true≢false e))
+returns-then-q-w c = record { by_index = drain-none _ _ _ _ _ c.first-q.ensures c.if-q-w.true; t_after = λ e. absurd (true≢false e) }
 
 pub partners-requires : goal.partners-requires
 partners-requires c = tt

@@ -6,9 +6,6 @@ use Rattle.wordset.proofs.AnswersLaws.{word-answers}
 use Rattle.image.proofs.Lessening.{less-falls, less-on}
 use Rattle.image.proofs.smaller.Goals as goal
 
-low : (c : goal.Else-x-eq0) → count_trailing_zeros 64 c.fewer_word-x.result < 64
-low c = (lowest 64 _ (omega arith) c.fewer_word-x.type-inv c.if-x-eq0.false).0
-
 pub loop-k-init : goal.loop-k-init
 loop-k-init c =
     record { fits = c.ranges.r.fits; is = c.requires.refused }
@@ -44,15 +41,16 @@ loop-k-preserved-then-x-eq0 c = c.loop-k.invariant
 
 pub refusal_set-s-requires : goal.refusal_set-s-requires
 refusal_set-s-requires c =
-    (c.requires.w_in_bounds.0, c.loop-k-test.true, low c)
+    let low : count_trailing_zeros 64 c.fewer_word-x.result < 64 = (lowest 64 _ (omega arith) c.fewer_word-x.type_inv c.if-x-eq0.false).0 in
+    (c.requires.w_in_bounds.0, c.loop-k-test.true, low)
 
 pub loop-k-smaller : goal.loop-k-smaller
 loop-k-smaller c =
-    (let l = less-falls c.loop-k.invariant c.loop-k-test.true (c.fewer_word-x.ensures _ (word-answers _ _ (c.type_inv.rest _).fits)) c.if-x-eq0.false c.refusal_set-s.type-inv c.refusal_set-s.ensures in omega arith)
+    (let l = less-falls c.loop-k.invariant c.loop-k-test.true (c.fewer_word-x.ensures _ (word-answers _ _ (c.type_inv.rest _).fits)) c.if-x-eq0.false c.refusal_set-s.type_inv c.refusal_set-s.ensures in omega arith)
 
 pub loop-k-preserved : goal.loop-k-preserved
 loop-k-preserved c =
-    less-on c.loop-k.invariant c.loop-k-test.true (c.fewer_word-x.ensures _ (word-answers _ _ (c.type_inv.rest _).fits)) c.if-x-eq0.false c.refusal_set-s.type-inv c.refusal_set-s.ensures
+    less-on c.loop-k.invariant c.loop-k-test.true (c.fewer_word-x.ensures _ (word-answers _ _ (c.type_inv.rest _).fits)) c.if-x-eq0.false c.refusal_set-s.type_inv c.refusal_set-s.ensures
 
 pub returns : goal.returns
 returns c = c.loop-k.invariant.is
@@ -61,4 +59,5 @@ pub overflow_sub-s : goal.overflow_sub-s
 overflow_sub-s c = (let n = c.if-s-eq0.false in omega arith)
 
 pub overflow_cast-x : goal.overflow_cast-x
-overflow_cast-x c = (let l = low c in omega arith)
+overflow_cast-x c =
+    let low : count_trailing_zeros 64 c.fewer_word-x.result < 64 = (lowest 64 _ (omega arith) c.fewer_word-x.type_inv c.if-x-eq0.false).0 in (let l = low in omega arith)

@@ -8,8 +8,7 @@ pub loop-n-init : goal.loop-n-init
 loop-n-init c = (judge-moved judge-start (start-number c.first-n.result c.first-n.ensures), (start-count c.first-n.result c.first-n.ensures, kept-start))
 
 pub try_naming-found-requires : goal.try_naming-found-requires
-try_naming-found-requires c =
-    (c.requires.ready, (room-kept c.requires.room c.loop-n.invariant.1.1, c.requires.places))
+try_naming-found-requires c = record { ready = c.requires.ready; room = room-kept c.requires.room c.loop-n.invariant.1.1; places = c.requires.places }
 
 pub returns-in-At : goal.returns-in-At
 returns-in-At c =
@@ -21,7 +20,11 @@ loop-n-smaller c =
 
 pub loop-n-preserved : goal.loop-n-preserved
 loop-n-preserved c =
-    let now = c.loop-n in let next = c.advanced-n in let kept = c.try_naming-found.auto.1.1.1.1.1.1.1.1.1.1 in let none = sym c.try_naming-found.ensures ∙ c.in_default.is in (judge-moved (judge-next now.invariant.0 (in-hand now.n now.invariant.1.0 c.loop-n-test.true) none) (next-number now.n next.result next.ensures c.loop-n-test.true), (next-count now.n next.result next.ensures now.invariant.1.0, kept_more now.invariant.1.1 (record { first-long = kept.0; second-long = kept.1.0; copy-long = kept.1.1.0; todo-long = kept.1.1.1.0; v-long = kept.1.1.1.1.0; rest-long = kept.1.1.1.1.1.0 })))
+    let now = c.loop-n in
+    let next = c.advanced-n in
+    let kept = c.try_naming-found.auto in
+    let none = sym c.try_naming-found.ensures ∙ c.in_default.is in
+    (judge-moved (judge-next now.invariant.0 (in-hand now.n now.invariant.1.0 c.loop-n-test.true) none) (next-number now.n next.result next.ensures c.loop-n-test.true), (next-count now.n next.result next.ensures now.invariant.1.0, kept_more now.invariant.1.1 (record { first-long = kept.first; second-long = kept.second; copy-long = kept.copy; todo-long = kept.todo; v-long = kept.v; rest-long = kept.rest })))
 
 pub returns : goal.returns
 returns c =

@@ -11,10 +11,10 @@ start_words-requires c =
 
 pub settle-requires : goal.settle-requires
 settle-requires c =
-    let room = c.requires.room in record { made = (c.args.ms.now, c.args.ln.now, c.requires.ready); w_in_bounds = (subst (λ n. c.args.w ≤ n) (sym c.start_words.auto.1.1.1.1.1.0) room.first-room, room.second-room, room.copy-room, room.todo-room, room.v-room, room.rest-room) }
+    let room = c.requires.room in record { made = (c.args.ms.now, c.args.ln.now, c.requires.ready); w_in_bounds = (subst (λ n. c.args.w ≤ n) (sym c.start_words.auto.dst) room.first-room, room.second-room, room.copy-room, room.todo-room, room.v-room, room.rest-room) }
 
 pub goal_type-requires : goal.goal_type-requires
-goal_type-requires c = record { truths = c.requires.ready.truths; goal_in_bounds = (c.requires.places.1, subst (λ n. c.args.w ≤ n) (sym (c.settle.auto.1.1.1.1.0 ∙ c.start_words.auto.1.1.1.1.1.0)) c.requires.room.first-room, c.requires.ready.small) }
+goal_type-requires c = record { truths = c.requires.ready.truths; goal_in_bounds = (c.requires.places.1, subst (λ n. c.args.w ≤ n) (sym (c.settle.auto.first ∙ c.start_words.auto.dst)) c.requires.room.first-room, c.requires.ready.small) }
 
 pub returns : goal.returns
 returns c =

@@ -8,7 +8,7 @@ use Rattle.needs.proofs.list_needs.Goals as goal
 pub returns : goal.returns
 returns c =
     let l = c.list_members.ensures.few in
-    let q = c.list_fields-r.auto.1.0 in
-    let r = c.list_members.auto.1.0 in
+    let q = c.list_fields-r.auto.ns in
+    let r = c.list_members.auto.ns in
     let h : c.list_members.result ≤ length c.list_members.new.ns = omega arith in
     (h, listed c.list_members.ensures h)

@@ -12,42 +12,42 @@ abbrev Turned : goal.After-advanced-n → Type 0
 Turned c =
     let s = c.args in
     Paging (row_at s.ms.now s.ln.now s.w s.base.now s.names.now s.newline.now) (goals_at s.ms.now s.ln.now s.w s.base.now s.names.now s.goal)
-    s.start s.used s.out.now c.put_naming-k.new.out c.fill_table-c.new.first c.fill_table-c.new.second.0 c.later-v.result c.put_naming-k.result c.advanced-n.result
-
-turned : (c : goal.After-advanced-n) → Turned c
-turned c =
-    let at = c.loop-n in
-    let i = at.invariant.1 in
-    let kept = c.fill_table-c.auto.1.1.1.1.1.1.1.1.1 in
-    let found = found-is _ _ _ _ _ _ _ at.first _ _ (first-room at.invariant.0 c.requires.places.1.0) c.fill_table-c.ensures.first_holds c.goal_type-found.ensures in
-    paging-next at.invariant.0 c.loop-n-test.true (omega arith) c.put_naming-k.ensures.put (counted _ _ _ _ _ _ _ c.fill_table-c.ensures) c.put_naming-k.auto.0 kept.0 kept.1.0 found c.later-v.ensures c.advanced-n.ensures
+    s.start s.used s.out.now c.put_naming-k.new.out c.fill_table-c.new.first c.fill_table-c.new.second c.later-v.result c.put_naming-k.result c.advanced-n.result
 
 pub loop-n-init : goal.loop-n-init
 loop-n-init c =
     let p = c.requires.1.1 in (paging-start p.1.0 p.0 refl refl, p.1.1.0)
 
 pub fill_table-c-requires : goal.fill_table-c-requires
-fill_table-c-requires c =
-    let w = c.requires.places.1.0 in let at = c.loop-n.invariant.0 in (c.requires.ready, (c.requires.places.0, (w, (first-room at w, second-room at w))))
+fill_table-c-requires c = let w = c.requires.places.1.0 in let at = c.loop-n.invariant.0 in record { ready = c.requires.ready; places = (c.requires.places.0, (w, (first-room at w, second-room at w))) }
 
 pub put_naming-k-requires : goal.put_naming-k-requires
 put_naming-k-requires c =
     let i = c.loop-n.invariant.1 in record { space = omega arith; short = c.requires.number_le_count.1.1 }
 
 pub goal_type-found-requires : goal.goal_type-found-requires
-goal_type-found-requires c =
-    let w = c.requires.places.1 in (c.requires.ready.truths, (w.1, subst (λ n. c.args.w ≤ n) (sym c.fill_table-c.auto.1.1.1.1.1.1.1.1.1.0) (first-room c.loop-n.invariant.0 w.0), c.requires.ready.small))
+goal_type-found-requires c = let w = c.requires.places.1 in record { truths = c.requires.ready.truths; goal_in_bounds = (w.1, subst (λ n. c.args.w ≤ n) (sym c.fill_table-c.auto.first) (first-room c.loop-n.invariant.0 w.0), c.requires.ready.small) }
 
 pub overflow_sub-out : goal.overflow_sub-out
 overflow_sub-out c =
-    let i = c.loop-n.invariant.1 in let l = c.put_naming-k.auto.0 in let m = c.put_naming-k.ensures.upper_bound in omega arith
+    let i = c.loop-n.invariant.1 in let l = c.put_naming-k.auto.out in let m = c.put_naming-k.ensures.upper_bound in omega arith
 
 pub shape_of-out-then-out-k-lt256 : goal.shape_of-out-then-out-k-lt256
-shape_of-out-then-out-k-lt256 c = (turned c.before).out-same
+shape_of-out-then-out-k-lt256 c =
+    let turned : Turned c = let at = c.loop-n in
+    let i = at.invariant.1 in
+    let kept = c.fill_table-c.auto.1.1.1.1.1.1.1.1.1 in
+    let found = found-is _ _ _ _ _ _ _ at.first _ _ (first-room at.invariant.0 c.requires.places.1.0) c.fill_table-c.ensures.first_holds c.goal_type-found.ensures in
+    paging-next at.invariant.0 c.loop-n-test.true (omega arith) c.put_naming-k.ensures.put (counted _ _ _ _ _ _ _ c.fill_table-c.ensures) c.put_naming-k.auto.out kept.0 kept.1.0 found c.later-v.ensures c.advanced-n.ensures in (turned).out-same
 
 pub returns-then-out-k-lt256 : goal.returns-then-out-k-lt256
 returns-then-out-k-lt256 c =
-    let i = c.loop-n.invariant.1 in let o = c.loop-n.invariant.0.onward in let l = c.put_naming-k.auto.0 in let m = c.put_naming-k.ensures.upper_bound in page-done (turned c.before) (λ h. omega (arith, next-number _ _ c.advanced-n.ensures c.loop-n-test.true)) (omega arith)
+    let turned : Turned c = let at = c.loop-n in
+    let i = at.invariant.1 in
+    let kept = c.fill_table-c.auto.1.1.1.1.1.1.1.1.1 in
+    let found = found-is _ _ _ _ _ _ _ at.first _ _ (first-room at.invariant.0 c.requires.places.1.0) c.fill_table-c.ensures.first_holds c.goal_type-found.ensures in
+    paging-next at.invariant.0 c.loop-n-test.true (omega arith) c.put_naming-k.ensures.put (counted _ _ _ _ _ _ _ c.fill_table-c.ensures) c.put_naming-k.auto.out kept.0 kept.1.0 found c.later-v.ensures c.advanced-n.ensures in
+    let i = c.loop-n.invariant.1 in let o = c.loop-n.invariant.0.onward in let l = c.put_naming-k.auto.out in let m = c.put_naming-k.ensures.upper_bound in page-done (turned) (λ h. omega (arith, next-number _ _ c.advanced-n.ensures c.loop-n-test.true)) (omega arith)
 
 pub loop-n-smaller : goal.loop-n-smaller
 loop-n-smaller c =
@@ -55,7 +55,12 @@ loop-n-smaller c =
 
 pub loop-n-preserved : goal.loop-n-preserved
 loop-n-preserved c =
-    let i = c.loop-n.invariant.1 in let l = c.put_naming-k.auto.0 in let m = c.put_naming-k.ensures.upper_bound in (turned c.before, omega arith)
+    let turned : Turned c = let at = c.loop-n in
+    let i = at.invariant.1 in
+    let kept = c.fill_table-c.auto.1.1.1.1.1.1.1.1.1 in
+    let found = found-is _ _ _ _ _ _ _ at.first _ _ (first-room at.invariant.0 c.requires.places.1.0) c.fill_table-c.ensures.first_holds c.goal_type-found.ensures in
+    paging-next at.invariant.0 c.loop-n-test.true (omega arith) c.put_naming-k.ensures.put (counted _ _ _ _ _ _ _ c.fill_table-c.ensures) c.put_naming-k.auto.out kept.0 kept.1.0 found c.later-v.ensures c.advanced-n.ensures in
+    let i = c.loop-n.invariant.1 in let l = c.put_naming-k.auto.out in let m = c.put_naming-k.ensures.upper_bound in (turned, omega arith)
 
 pub shape_of-out : goal.shape_of-out
 shape_of-out c =

@@ -6,8 +6,7 @@ use Rattle.report.proofs.ReportLaws.{pages-asked, prints}
 use Rattle.report.proofs.accepted_in.Goals as goal
 
 pub fill-n-requires : goal.fill-n-requires
-fill-n-requires c =
-    ((_, c.requires.accepts.0), c.requires.stores)
+fill-n-requires c = record { by_index = (_, c.requires.accepts.0); stores = c.requires.stores }
 
 pub slice_bounds-write_pages-end : goal.slice_bounds-write_pages-end
 slice_bounds-write_pages-end c =
@@ -27,4 +26,4 @@ slice_bounds-write_pages-end-5 c =
 
 pub write_pages-requires : goal.write_pages-requires
 write_pages-requires c =
-    let q = c.requires.accepts in let r = c.args.newline.now in let asked = pages-asked q.0 r (c.fill-n.ensures.upper_bound.1, c.fill-n.ensures.based) (omega (arith, c.requires.stores.families, c.fill-n.auto.1.1.1.1.0)) in record { done_value = c.requires.done_value; prints = prints q.0 r (c.fill-n.ensures.upper_bound.1, c.fill-n.ensures.based) q.1.0; ready = c.fill-n.ensures.upper_bound.1; places = asked; in_bounds = (omega arith, q.1.1) }
+    let q = c.requires.accepts in let r = c.args.newline.now in let asked = pages-asked q.0 r (c.fill-n.ensures.upper_bound.1, c.fill-n.ensures.based) (omega (arith, c.requires.stores.families, c.fill-n.auto.base)) in record { done_value = c.requires.done_value; prints = prints q.0 r (c.fill-n.ensures.upper_bound.1, c.fill-n.ensures.based) q.1.0; ready = c.fill-n.ensures.upper_bound.1; places = asked; in_bounds = (omega arith, q.1.1) }

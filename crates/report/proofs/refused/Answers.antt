@@ -12,7 +12,7 @@ use Rattle.report.proofs.refused.Goals as goal
 pub slice_bounds-write_lines-end : goal.slice_bounds-write_lines-end
 slice_bounds-write_lines-end c =
     let r = c.put_refused-n.ensures.upper_bound in
-    let k = c.put_refused-n.auto.0 in
+    let k = c.put_refused-n.auto.out in
     sym (length-take-le _ _ (omega arith))
 
 pub write_lines-requires : goal.write_lines-requires

@@ -11,11 +11,10 @@ put_heading-used-requires c =
 
 pub loop-n-init : goal.loop-n-init
 loop-n-init c =
-    printing-start c.requires.prints c.requires.done_value c.requires.in_bounds.0 c.put_heading-used.ensures c.put_heading-used.auto.0 c.first-n.ensures
+    printing-start c.requires.prints c.requires.done_value c.requires.in_bounds.0 c.put_heading-used.ensures c.put_heading-used.auto.out c.first-n.ensures
 
 pub fill_page-p-requires : goal.fill_page-p-requires
-fill_page-p-requires c =
-    let at = c.loop-n.invariant in let p = c.requires.1.1 in let i = at.counts in let j = at.within in (p.0, (p.1.0, (at.judged, (omega arith, (at.room, p.1.1.1)))))
+fill_page-p-requires c = let at = c.loop-n.invariant in let p = c.requires.1.1 in let i = at.counts in let j = at.within in record { ready = p.0; places = p.1.0; judged = at.judged; number_le_count = (omega arith, (at.room, p.1.1.1)) }
 
 pub put_verdict-m-requires : goal.put_verdict-m-requires
 put_verdict-m-requires c =
@@ -27,11 +26,11 @@ overflow_add-namings c =
 
 pub slice_bounds-write_lines-end : goal.slice_bounds-write_lines-end
 slice_bounds-write_lines-end c =
-    let r = c.fill_page-p.ensures.room in let k = c.put_verdict-m.auto.0 in let l = c.put_verdict-m.ensures.upper_bound in omega arith
+    let r = c.fill_page-p.ensures.room in let k = c.put_verdict-m.auto.out in let l = c.put_verdict-m.ensures.upper_bound in omega arith
 
 pub slice_bounds-write_lines-end-then-namings-next : goal.slice_bounds-write_lines-end-then-namings-next
 slice_bounds-write_lines-end-then-namings-next c =
-    let r = c.fill_page-p.ensures.room in let k = c.put_verdict-m.auto.0 in let l = c.put_verdict-m.ensures.upper_bound in sym (length-take-le _ _ (omega arith))
+    let r = c.fill_page-p.ensures.room in let k = c.put_verdict-m.auto.out in let l = c.put_verdict-m.ensures.upper_bound in sym (length-take-le _ _ (omega arith))
 
 pub write_lines-requires : goal.write_lines-requires
 write_lines-requires c =
@@ -63,4 +62,4 @@ loop-n-smaller c =
 
 pub loop-n-preserved : goal.loop-n-preserved
 loop-n-preserved c =
-    let p = c.requires.1 in let q = p.1.1.1.0 in let k = c.put_heading-used.auto.0 in printing-next p.0 c.loop-n.invariant c.fill_page-p.ensures c.if-namings-next.false (omega arith) c.fill_page-p.auto.1.1.1.1.1.1.1.1.1.1.1.0 c.write_lines-in-loop-n.ensures
+    let p = c.requires.1 in let q = p.1.1.1.0 in let k = c.put_heading-used.auto.out in printing-next p.0 c.loop-n.invariant c.fill_page-p.ensures c.if-namings-next.false (omega arith) c.fill_page-p.auto.out c.write_lines-in-loop-n.ensures

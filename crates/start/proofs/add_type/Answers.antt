@@ -6,6 +6,7 @@ use borrow.Author.Tests.{not-false, not-true}
 use Rattle.wordset.specs.Words.{member}
 use Rattle.start.specs.Starts.{obeys_by}
 use Rattle.start.proofs.Starting.{join-none, join_one}
+use borrow.Author.Rules.{rules}
 use Rattle.start.proofs.add_type.Goals as goal
 
 pub returns-then-not-contains : goal.returns-then-not-contains
@@ -17,7 +18,7 @@ returns-then-not-contains c =
 pub returns-then-obeys : goal.returns-then-obeys
 returns-then-obeys c =
     let a = c.args in
-    join_one (λ u. member a.base.now (a.w * 64 + u)) (obeys_by a.names.now a.n a.r) a.dst.now a.w a.t c.requires.1.1.1.0 (λ i h. (c.type_inv.dst i).fits) c.requires.1.1.1.1
+    join_one (λ u. member a.base.now (a.w * 64 + u)) (obeys_by a.names.now a.n a.r) a.dst.now a.w a.t c.requires.1.1.1.0 (λ i h. search rules) c.requires.1.1.1.1
     (ap₂ ◌&&◌ (sym c.contains.ensures ∙ not-false _ c.if-not-contains.false-raw) (sym c.obeys.ensures ∙ c.if-obeys.true))
 
 pub returns-else-obeys : goal.returns-else-obeys

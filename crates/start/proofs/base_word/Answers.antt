@@ -7,14 +7,6 @@ use Rattle.truth.proofs.BlockLaws.{slot}
 use Rattle.truth.proofs.Folds.{meet-end, meet-on, meet-start}
 use Rattle.start.proofs.base_word.Goals as goal
 
-abbrev start : goal.After-shared_slice_known-in-loop-i-1 → goal.Start
-start c = c.before.before.before.before.before.before.before.before
-
-g-at : (c : goal.After-shared_slice_known-in-loop-i-1) → get_or (start c).args.globals.now c.loop-i.i 0 * (start c).args.w + (start c).args.k < length (start c).args.tw.now
-g-at c =
-    let p = (start c).requires in
-    slot _ _ _ _ _ (p.1.1.0 _ c.loop-i-test.true) p.0.room p.1.0.0
-
 pub overflow_cast-g : goal.overflow_cast-g
 overflow_cast-g c = omega (arith, c.type_inv.globals c.loop-i.i)
 
@@ -38,13 +30,17 @@ pub loop-i-init : goal.loop-i-init
 loop-i-init c = meet-start
 
 pub overflow_mul-acc : goal.overflow_mul-acc
-overflow_mul-acc c = omega (arith, g-at c)
+overflow_mul-acc c =
+    let g-at : get_or c.args.globals.now c.loop-i.i 0 * c.args.w + c.args.k < length c.args.tw.now = slot _ _ _ _ _ (c.requires.by_index _ c.loop-i-test.true) c.requires.truths.room c.requires.k_lt_w.0 in omega (arith, g-at)
 
 pub overflow_add-acc : goal.overflow_add-acc
-overflow_add-acc c = omega (arith, g-at c)
+overflow_add-acc c =
+    let g-at : get_or c.args.globals.now c.loop-i.i 0 * c.args.w + c.args.k < length c.args.tw.now = slot _ _ _ _ _ (c.requires.by_index _ c.loop-i-test.true) c.requires.truths.room c.requires.k_lt_w.0 in omega (arith, g-at)
 
 pub offset_bounds-tw-g : goal.offset_bounds-tw-g
-offset_bounds-tw-g c = omega (arith, g-at c)
+offset_bounds-tw-g c =
+    let g-at : get_or c.args.globals.now c.loop-i.i 0 * c.args.w + c.args.k < length c.args.tw.now = slot _ _ _ _ _ (c.requires.by_index _ c.loop-i-test.true) c.requires.truths.room c.requires.k_lt_w.0 in omega (arith, g-at)
 
 pub bounds-tw-g : goal.bounds-tw-g
-bounds-tw-g c = g-at c.before
+bounds-tw-g c =
+    let g-at : get_or c.args.globals.now c.loop-i.i 0 * c.args.w + c.args.k < length c.args.tw.now = slot _ _ _ _ _ (c.requires.by_index _ c.loop-i-test.true) c.requires.truths.room c.requires.k_lt_w.0 in g-at

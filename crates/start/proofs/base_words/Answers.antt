@@ -5,8 +5,7 @@ use Rattle.start.proofs.Halves.{halved-end, halved-on, halved-start, second_at}
 use Rattle.start.proofs.base_words.Goals as goal
 
 pub base_word-all-requires : goal.base_word-all-requires
-base_word-all-requires c =
-    (c.requires.truths, ((c.loop-k-test.true, (let n = c.requires.named.narrow in omega arith)), (c.requires.by_index, c.requires.by_index_2)))
+base_word-all-requires c = record { truths = c.requires.truths; k_lt_w = (c.loop-k-test.true, (let n = c.requires.named.narrow in omega arith)); by_index = c.requires.by_index; by_index_2 = c.requires.by_index_2 }
 
 pub free_word-free-requires : goal.free_word-free-requires
 free_word-free-requires c =

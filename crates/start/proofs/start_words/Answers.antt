@@ -12,7 +12,7 @@ copy-requires c =
 pub loop-i-init : goal.loop-i-init
 loop-i-init c =
     let a = c.args in
-    started-first a.w a.base.now a.names.now a.n a.r (let k = c.copy.auto.0 in let h = c.requires.1.1.1.1 in omega arith) _ c.requires.1.1.1.1 c.copy.ensures
+    started-first a.w a.base.now a.names.now a.n a.r (let k = c.copy.auto.dst in let h = c.requires.1.1.1.1 in omega arith) _ c.requires.1.1.1.1 c.copy.ensures
 
 pub overflow_cast-names : goal.overflow_cast-names
 overflow_cast-names c = omega (arith, c.type_inv.names c.loop-i.i)
@@ -32,7 +32,7 @@ add_type-requires c =
         (
           c.requires.1.1.1.0,
           (
-            (let c.named_type-t.ensures = c.loop-i.invariant.long in let k = c.copy.auto.0 in let h = c.requires.1.1.1.1 in omega arith),
+            (let e = c.loop-i.invariant.long in let k = c.copy.auto.dst in let h = c.requires.1.1.1.1 in omega arith),
             (let l = type-lt _ a.n a.r c.loop-i.i (c.requires.0.within _ c.loop-i-test.true) c.requires.0.narrow in let h = c.requires.1.0 in omega arith),
           ),
         ),
@@ -48,13 +48,13 @@ loop-i-smaller c = let l = c.loop-i-test.true in omega arith
 pub loop-i-preserved : goal.loop-i-preserved
 loop-i-preserved c =
     let a = c.args in
-    started-on a.w a.base.now a.names.now a.n a.r (let k = c.copy.auto.0 in let h = c.requires.1.1.1.1 in omega arith) c.loop-i.invariant c.loop-i-test.true c.add_type.auto.1.1.1.1.1.1.0
+    started-on a.w a.base.now a.names.now a.n a.r (let k = c.copy.auto.dst in let h = c.requires.1.1.1.1 in omega arith) c.loop-i.invariant c.loop-i-test.true c.add_type.auto.dst
     c.named_type-t.ensures c.add_type.ensures
 
 pub shape_of-dst : goal.shape_of-dst
-shape_of-dst c = c.loop-i.invariant.long ∙ c.copy.auto.0
+shape_of-dst c = c.loop-i.invariant.long ∙ c.copy.auto.dst
 
 pub returns : goal.returns
 returns c =
     let a = c.args in
-    started-all a.w a.base.now a.names.now a.n a.r (let k = c.copy.auto.0 in let h = c.requires.1.1.1.1 in omega arith) c.loop-i.invariant c.loop-i-test.false _ c.requires.1.1.1.1 c.copy.ensures
+    started-all a.w a.base.now a.names.now a.n a.r (let k = c.copy.auto.dst in let h = c.requires.1.1.1.1 in omega arith) c.loop-i.invariant c.loop-i-test.false _ c.requires.1.1.1.1 c.copy.ensures

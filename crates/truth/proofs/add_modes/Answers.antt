@@ -19,7 +19,7 @@ loop-rest-preserved c =
     let n = c.loop-rest-test.true in
     let l = adding-low s n in
     adding-on s n c.find_place.result (λ t. ap (in_type t) (c.find_place.ensures ∙ ap₂ (λ g m. place_of a.ms.now a.ln.now g m a.b) c.next_tag-g.ensures (shl_one _ (omega arith))))
-    c.add_place.auto.0 c.add_place.ensures
+    c.add_place.auto.tw c.add_place.ensures
 
 pub returns : goal.returns
 unfolding nexts

@@ -21,8 +21,7 @@ returns-then-g-lt8 c =
     next-pair c.requires.table c.requires.leans c.requires.i_in_bounds.0 _ c.tag-g.ensures (omega arith) (omega arith) c.left-l.ensures c.next_block.ensures
 
 pub step_block-until-requires : goal.step_block-until-requires
-step_block-until-requires c =
-    (c.requires.table, (c.requires.leans, (c.requires.i_in_bounds.0, c.requires.i_in_bounds.1, omega arith)))
+step_block-until-requires c = record { table = c.requires.table; leans = c.requires.leans; i_in_bounds = (c.requires.i_in_bounds.0, c.requires.i_in_bounds.1, omega arith) }
 
 pub expand_block-requires-2 : goal.expand_block-requires-2
 expand_block-requires-2 c =

@@ -1,4 +1,3 @@
-use Prim.Native.Nat.{◌-◌}
 use native.Mathlib.Omega.{arith}
 use Rattle.values.proofs.TableLaws.{sofar-none, sofar-ready, sofar-room, sofar-next, sofar-all}
 use Rattle.values.proofs.with_values.Goals as goal
@@ -15,7 +14,7 @@ with_value-m-requires c =
 
 pub loop-k-preserved : goal.loop-k-preserved
 loop-k-preserved c =
-    sofar-next c.requires.0 c.loop-k.invariant c.loop-k-test.true c.with_value-m.auto.0 c.with_value-m.ensures
+    sofar-next c.requires.0 c.loop-k.invariant c.loop-k-test.true c.with_value-m.auto.tab c.with_value-m.ensures
 
 pub shape_of-tab : goal.shape_of-tab
 shape_of-tab c = c.loop-k.invariant.same

@@ -8,8 +8,7 @@ pub book_in-requires : goal.book_in-requires
 book_in-requires c = record { accepts = c.requires.accepts; words_in_bounds = c.requires.words_in_bounds; stores = sized 136 8 (few-members c.requires.accepts) c.if-u-le8.true refl refl refl refl }
 
 pub book_in-requires-then-u-le16 : goal.book_in-requires-then-u-le16
-book_in-requires-then-u-le16 c =
-    (c.requires.accepts, (c.requires.words_in_bounds, sized 136 16 (few-members c.requires.accepts) c.if-u-le16.true refl refl refl refl))
+book_in-requires-then-u-le16 c = record { accepts = c.requires.accepts; words_in_bounds = c.requires.words_in_bounds; stores = sized 136 16 (few-members c.requires.accepts) c.if-u-le16.true refl refl refl refl }
 
 pub book_in-requires-2 : goal.book_in-requires-2
 book_in-requires-2 c = record { accepts = c.requires.accepts; words_in_bounds = c.requires.words_in_bounds; stores = sized 136 64 (few-members c.requires.accepts) (few_words c.requires.accepts) refl refl refl refl }

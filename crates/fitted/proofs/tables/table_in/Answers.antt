@@ -6,8 +6,7 @@ use Rattle.fitted.proofs.AcceptedLaws.{fill-asked, table_filled}
 use Rattle.fitted.proofs.tables.table_in.Goals as goal
 
 pub fill-n-requires : goal.fill-n-requires
-fill-n-requires c =
-    ((_, c.requires.accepts), c.requires.stores)
+fill-n-requires c = record { by_index = (_, c.requires.accepts); stores = c.requires.stores }
 
 pub slice_bounds-fill_table-end : goal.slice_bounds-fill_table-end
 slice_bounds-fill_table-end c =
@@ -26,8 +25,8 @@ slice_bounds-fill_table-end-5 c =
     sym (length-take-le _ _ c.requires.accepts.names-within)
 
 pub fill_table-requires : goal.fill_table-requires
-fill_table-requires c = let p = fill-asked c.requires.accepts (c.fill-n.ensures.upper_bound.1, c.fill-n.ensures.based) (omega (arith, c.requires.stores.families, c.fill-n.auto.1.1.1.1.0)) c.requires.words_in_bounds in record { ready = p.0; places = p.1 }
+fill_table-requires c = let p = fill-asked c.requires.accepts (c.fill-n.ensures.upper_bound.1, c.fill-n.ensures.based) (omega (arith, c.requires.stores.families, c.fill-n.auto.base)) c.requires.words_in_bounds in record { ready = p.0; places = p.1 }
 
 pub returns : goal.returns
 returns c =
-    table_filled c.requires.accepts (c.fill-n.ensures.upper_bound.1, c.fill-n.ensures.based) (omega (arith, c.requires.stores.families, c.fill-n.auto.1.1.1.1.0)) _ c.fill_table.ensures
+    table_filled c.requires.accepts (c.fill-n.ensures.upper_bound.1, c.fill-n.ensures.based) (omega (arith, c.requires.stores.families, c.fill-n.auto.base)) _ c.fill_table.ensures

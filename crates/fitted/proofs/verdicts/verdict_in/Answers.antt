@@ -6,8 +6,7 @@ use Rattle.fitted.proofs.AcceptedLaws.{judge-asked, judged}
 use Rattle.fitted.proofs.verdicts.verdict_in.Goals as goal
 
 pub fill-n-requires : goal.fill-n-requires
-fill-n-requires c =
-    ((_, c.requires.accepts), c.requires.stores)
+fill-n-requires c = record { by_index = (_, c.requires.accepts); stores = c.requires.stores }
 
 pub slice_bounds-judge-end : goal.slice_bounds-judge-end
 slice_bounds-judge-end c =
@@ -26,8 +25,8 @@ slice_bounds-judge-end-5 c =
     sym (length-take-le _ _ c.requires.accepts.names-within)
 
 pub judge-requires : goal.judge-requires
-judge-requires c = let p = judge-asked c.requires.accepts (c.fill-n.ensures.upper_bound.1, c.fill-n.ensures.based) (omega (arith, c.requires.stores.families, c.fill-n.auto.1.1.1.1.0)) in record { ready = p.0; places = p.1 }
+judge-requires c = let p = judge-asked c.requires.accepts (c.fill-n.ensures.upper_bound.1, c.fill-n.ensures.based) (omega (arith, c.requires.stores.families, c.fill-n.auto.base)) in record { ready = p.0; places = p.1 }
 
 pub returns : goal.returns
 returns c =
-    judged c.requires.accepts (c.fill-n.ensures.upper_bound.1, c.fill-n.ensures.based) (omega (arith, c.requires.stores.families, c.fill-n.auto.1.1.1.1.0)) c.judge.ensures
+    judged c.requires.accepts (c.fill-n.ensures.upper_bound.1, c.fill-n.ensures.based) (omega (arith, c.requires.stores.families, c.fill-n.auto.base)) c.judge.ensures

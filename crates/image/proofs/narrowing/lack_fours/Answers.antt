@@ -3,6 +3,7 @@ use Prim.Native.Nat.{◌-◌}
 use native.Mathlib.Omega.{arith}
 use Rattle.wordset.proofs.Packing.{pack-start}
 use Rattle.image.proofs.Fours.{narrow-as, narrow-four, narrow-part}
+use borrow.Author.Rules.{rules}
 use Rattle.image.proofs.narrowing.lack_fours.Goals as goal
 
 pub keep_four-any-requires : goal.keep_four-any-requires
@@ -13,7 +14,7 @@ pub loop-j-preserved : goal.loop-j-preserved
 loop-j-preserved c =
     let k = c.keep_four-any in
     narrow-as k.ensures.0 k.ensures.1 (omega arith)
-    (narrow-four c.loop-j.invariant (let t = c.loop-j-test.true in omega arith) (λ i. (c.type_inv.dst i).fits) c.lack_four.ensures)
+    (narrow-four c.loop-j.invariant (let t = c.loop-j-test.true in omega arith) (λ i. search rules) c.lack_four.ensures)
 
 pub returns : goal.returns
 returns c = narrow-part c.loop-j.invariant (let h = c.loop-j.invariant.note.within in let t = c.loop-j-test.false in omega arith)

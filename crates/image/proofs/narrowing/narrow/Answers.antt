@@ -2,6 +2,10 @@ use mathlib.Core.Logic.{⊎_elim}
 use Prim.Native.Nat.{◌-◌}
 use native.Mathlib.Omega.{arith}
 use Rattle.image.proofs.Fours.{tail-as, tail-end, tail-on, tail-start, tail-stay}
+use Prim.Native.Nat.{◌^◌, ◌<◌}
+use lib.ListN.{get_or}
+use borrow.Author.Rules.{rules}
+use Rattle.image.proofs.narrowing.narrow.Goals.{then-x-ne0, else-x-ne0}
 use Rattle.image.proofs.narrowing.narrow.Goals as goal
 
 pub bounds-dst-k : goal.bounds-dst-k
@@ -16,8 +20,11 @@ pub loop-k-preserved : goal.loop-k-preserved
 loop-k-preserved c =
     let s = c.loop-k.invariant in
     let h = c.loop-k-test.true in
-    let x = (c.type_inv.dst _).fits in
-    ⊎_elim (λ w. tail-as w.2 w.3 (tail-on s h x w.1.ensures)) (λ w. tail-as w.1 w.2 (tail-stay s h x w.0.left)) c.if-x-ne0.branch
+    let x : get_or c.loop-k.dst c.loop-k.k 0 < 2 ^ 64 = search rules in
+    elim c.if-x-ne0.branch [
+      | then-x-ne0 w ↦ tail-as w.dst-is w.any-is (tail-on s h x w.pass_word.ensures)
+      | else-x-ne0 w ↦ tail-as w.dst-is w.any-is (tail-stay s h x w.if-x-ne0.false)
+    ]
 
 pub returns : goal.returns
 returns c = tail-end c.loop-k.invariant c.loop-k-test.false c.requires.2

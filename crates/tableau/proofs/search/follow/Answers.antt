@@ -26,7 +26,7 @@ pick_less-requires c =
 
 pub confine_linked-requires : goal.confine_linked-requires
 confine_linked-requires c =
-    let r = c.requires.by_index.1.1.2 in let m = along-mode c.args.a c.args.x _ c.along.ensures c.if-not-along.false-raw (among-mode r c.requires.by_index.1.0) in record { w_in_bounds = (r.links.room, r.small, rw c.mode.ensures m); by_index = rw c.mode.ensures (r.links.refuse _ m); w_in_bounds_2 = (c.requires.w_in_bounds.2, (let k = c.pick.auto.0 in let h = c.requires.w_in_bounds.3 in omega arith), (let k = c.pick_less.auto.0 in let h = c.requires.w_in_bounds.4 in omega arith)) }
+    let r = c.requires.by_index.1.1.2 in let m = along-mode c.args.a c.args.x _ c.along.ensures c.if-not-along.false-raw (among-mode r c.requires.by_index.1.0) in record { w_in_bounds = (r.links.room, r.small, rw c.mode.ensures m); by_index = rw c.mode.ensures (r.links.refuse _ m); w_in_bounds_2 = (c.requires.w_in_bounds.2, (let k = c.pick.auto.dst in let h = c.requires.w_in_bounds.3 in omega arith), (let k = c.pick_less.auto.dst in let h = c.requires.w_in_bounds.4 in omega arith)) }
 
 pub returns-then-pick : goal.returns-then-pick
 returns-then-pick c =

@@ -10,7 +10,7 @@ follow-requires c = record { by_index = (c.args.ns.now, (((_, c.loop-j-test.true
 
 pub loop-j-preserved : goal.loop-j-preserved
 loop-j-preserved c =
-    all-on c.loop-j.invariant _ _ _ c.loop-j-test.true c.follow.auto.1.1.1.1.1.1.1.0 c.follow.auto.1.1.1.1.1.1.1.1.0 c.follow.auto.1.1.1.1.1.1.1.1.1.0 c.follow.ensures
+    all-on c.loop-j.invariant _ _ _ c.loop-j-test.true c.follow.auto.dst c.follow.auto.v c.follow.auto.rest c.follow.ensures
 
 pub returns : goal.returns
 unfolding has_nexts
