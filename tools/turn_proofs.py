@@ -297,6 +297,7 @@ def tuple_parts(body):
             parts.append(b[last:i].strip())
             last = i + 1
     parts.append(b[last:-1].strip())
+    parts = [x for x in parts if x]
     return parts if len(parts) > 1 else None
 
 

@@ -209,7 +209,7 @@ module _ (ns roots tab₀ places₀ : List ℕ) (c : Closes ns roots tab₀ plac
       loop-room = let a = c.room in let e = loop-same-places in omega arith
 
       pub loop-reads : Reads ns (get_or roots k 0)
-      loop-reads = let e = c.given.many in record { inside = c.roots-in k h; few = c.few; formula = get_or c.formulas k Raw.zero; at = c.given.at k h; fits = c.ranges (get_or c.formulas k Raw.zero) (raw-in c.formulas k (omega arith)) }
+      loop-reads = let e = c.given.many in record { inside = c.roots-in k h; few = c.few; formula = get_or c.formulas k Raw.zero; at = c.given.at k h; fits = c.fits (get_or c.formulas k Raw.zero) (raw-in c.formulas k (omega arith)) }
 
       module _ {tab' : List ℕ} {a : Added} (w : Adds ns (get_or roots k 0) true tab n tab' a) (same : length tab' ≡ length tab) where
         module _ (ps : List Raw) (g : Given ns roots ps) where

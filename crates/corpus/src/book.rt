@@ -4,6 +4,7 @@ use corpus_text::outcome::{write_end, write_operation, write_refused};
 use corpus_text::store::{fill_words, words_kept};
 use corpus_text::sums::write_book;
 use lockgraph::{BookAnswer, Limits};
+use std::io::Stdout;
 
 // The words of the longest store, which has room for every book under the usual limits.
 const MOST: usize = 65536;
@@ -20,41 +21,41 @@ fn words_of(namings: u64, words: usize) -> usize {
 }
 
 // Book with the store given.
-fn book_with(l: Limits, sheet: &[u8], store: &mut [u64]) {
+fn book_with(out: Stdout, l: Limits, sheet: &[u8], store: &mut [u64]) {
     fill_words(store);
     let answer = lockgraph::book_within(l, sheet, store);
     match answer {
         BookAnswer::Refused(k) => {
-            write_refused(k);
-            write_end(words_kept(store, 0));
+            write_refused(out, k);
+            write_end(out, words_kept(store, 0));
         }
-        BookAnswer::Done { namings, words } => write_book(store, words_of(namings, words)),
+        BookAnswer::Done { namings, words } => write_book(out, store, words_of(namings, words)),
     }
 }
 
 // Book with a short store: most are, and clearing the longest would cost more than the call.
-fn book_short(l: Limits, sheet: &[u8], length: u64) {
+fn book_short(out: Stdout, l: Limits, sheet: &[u8], length: u64) {
     let mut store = [0u64; 512];
     let n = at_most(length, 512);
-    book_with(l, sheet, &mut store[0..n]);
+    book_with(out, l, sheet, &mut store[0..n]);
 }
 
-fn book_long(l: Limits, sheet: &[u8], length: u64) {
+fn book_long(out: Stdout, l: Limits, sheet: &[u8], length: u64) {
     let mut store = [0u64; 65536];
     let n = at_most(length, 65536);
-    book_with(l, sheet, &mut store[0..n]);
+    book_with(out, l, sheet, &mut store[0..n]);
 }
 
 // The outcome, unless the program has no store so long: a shorter one may have to be refused.
-pub fn book(l: Limits, line: &[u8], sheet: &[u8], length: u64) -> bool {
+pub fn book(out: Stdout, l: Limits, line: &[u8], sheet: &[u8], length: u64) -> bool {
     if (MOST as u64) < length {
         return false;
     }
-    write_operation(line);
+    write_operation(out, line);
     if length <= 512 {
-        book_short(l, sheet, length);
+        book_short(out, l, sheet, length);
     } else {
-        book_long(l, sheet, length);
+        book_long(out, l, sheet, length);
     }
     true
 }

@@ -7,6 +7,7 @@ use crate::table::table;
 use crate::verdict::{goal, program, verdict};
 use corpus_text::number::{ends, has_slash, number_at, pair_at};
 use lockgraph::{Limits, usual_limits};
+use std::io::{Stderr, Stdout};
 
 // The limits of a call, and where its own words begin: past the line's end where it has none.
 #[derive(Clone, Copy)]
@@ -37,46 +38,46 @@ fn limits_at(line: &[u8], at: usize) -> Given {
     }
 }
 
-fn table_call(l: Limits, line: &[u8], at: usize, sheet: &[u8]) -> bool {
+fn table_call(out: Stdout, l: Limits, line: &[u8], at: usize, sheet: &[u8]) -> bool {
     let naming = number_at(line, at);
     let first = number_at(line, naming.next);
     let second = number_at(line, first.next);
     if ends(line, second) {
-        table(l, line, sheet, naming.value, first.value, second.value);
+        table(out, l, line, sheet, naming.value, first.value, second.value);
         return true;
     }
     false
 }
 
-fn book_call(l: Limits, line: &[u8], at: usize, sheet: &[u8]) -> bool {
+fn book_call(out: Stdout, l: Limits, line: &[u8], at: usize, sheet: &[u8]) -> bool {
     let length = number_at(line, at);
     if ends(line, length) {
-        return book(l, line, sheet, length.value);
+        return book(out, l, line, sheet, length.value);
     }
     false
 }
 
-fn clean_call(l: Limits, line: &[u8], at: usize, sheet: &[u8]) -> bool {
+fn clean_call(out: Stdout, l: Limits, line: &[u8], at: usize, sheet: &[u8]) -> bool {
     let length = number_at(line, at);
     if ends(line, length) {
-        clean(l, line, sheet, length.value);
+        clean(out, l, line, sheet, length.value);
         return true;
     }
     false
 }
 
-fn list_call(l: Limits, line: &[u8], at: usize, sheet: &[u8]) -> bool {
+fn list_call(out: Stdout, l: Limits, line: &[u8], at: usize, sheet: &[u8]) -> bool {
     let naming = number_at(line, at);
     let length = number_at(line, naming.next);
     if ends(line, length) {
-        list(l, line, sheet, naming.value, length.value);
+        list(out, l, line, sheet, naming.value, length.value);
         return true;
     }
     false
 }
 
 // The call is written up to its number's end; what stands behind the space there is the text.
-fn snapshot_call(l: Limits, line: &[u8], at: usize, sheet: &[u8]) -> bool {
+fn snapshot_call(out: Stdout, l: Limits, line: &[u8], at: usize, sheet: &[u8]) -> bool {
     let n = line.len();
     if n < at {
         return false;
@@ -87,44 +88,58 @@ fn snapshot_call(l: Limits, line: &[u8], at: usize, sheet: &[u8]) -> bool {
         return false;
     }
     if n < next {
-        return snapshot(l, line, sheet, b"", length.value);
+        return snapshot(out, l, line, sheet, b"", length.value);
     }
     let end = layout::end_of(32, line, at);
-    snapshot(l, &line[0..end], sheet, &line[next..n], length.value)
+    snapshot(out, l, &line[0..end], sheet, &line[next..n], length.value)
 }
 
 // A call that has words of its own, from a place of the line on.
-fn with_words(l: Limits, operation: &[u8], line: &[u8], at: usize, sheet: &[u8]) -> bool {
+fn with_words(
+    out: Stdout,
+    l: Limits,
+    operation: &[u8],
+    line: &[u8],
+    at: usize,
+    sheet: &[u8],
+) -> bool {
     if layout::same_text(operation, b"table") {
-        return table_call(l, line, at, sheet);
+        return table_call(out, l, line, at, sheet);
     }
     if layout::same_text(operation, b"book") {
-        return book_call(l, line, at, sheet);
+        return book_call(out, l, line, at, sheet);
     }
     if layout::same_text(operation, b"clean") {
-        return clean_call(l, line, at, sheet);
+        return clean_call(out, l, line, at, sheet);
     }
     if layout::same_text(operation, b"list") {
-        return list_call(l, line, at, sheet);
+        return list_call(out, l, line, at, sheet);
     }
     if layout::same_text(operation, b"snapshot") {
-        return snapshot_call(l, line, at, sheet);
+        return snapshot_call(out, l, line, at, sheet);
     }
     false
 }
 
 // A call that has none.
-fn without_words(l: Limits, operation: &[u8], line: &[u8], sheet: &[u8]) -> bool {
+fn without_words(
+    out: Stdout,
+    err: Stderr,
+    l: Limits,
+    operation: &[u8],
+    line: &[u8],
+    sheet: &[u8],
+) -> bool {
     if layout::same_text(operation, b"verdict") {
-        verdict(l, line, sheet);
+        verdict(out, l, line, sheet);
         return true;
     }
     if layout::same_text(operation, b"goal") {
-        goal(l, line, sheet);
+        goal(out, l, line, sheet);
         return true;
     }
     if layout::same_text(operation, b"program") {
-        program(l, line, sheet);
+        program(out, err, l, line, sheet);
         return true;
     }
     // This program passes over the facts.
@@ -132,7 +147,7 @@ fn without_words(l: Limits, operation: &[u8], line: &[u8], sheet: &[u8]) -> bool
 }
 
 // The outcome of an operation on the sheet, unless the line is not understood.
-pub fn answer(line: &[u8], sheet: &[u8]) -> bool {
+pub fn answer(out: Stdout, err: Stderr, line: &[u8], sheet: &[u8]) -> bool {
     let n = line.len();
     let end = layout::end_of(32, line, 0);
     let given = limits_at(line, end + 1);
@@ -141,7 +156,7 @@ pub fn answer(line: &[u8], sheet: &[u8]) -> bool {
         return false;
     }
     if n < given.next {
-        return without_words(l, &line[0..end], line, sheet);
+        return without_words(out, err, l, &line[0..end], line, sheet);
     }
-    with_words(l, &line[0..end], line, given.next, sheet)
+    with_words(out, l, &line[0..end], line, given.next, sheet)
 }

@@ -1,7 +1,9 @@
 // Lines out of chunks of input. A line that the store has no room for is over every limit of an operation, so what is past its end is dropped, with the part of an
 // escape before it; the line of a case is written on as it comes.
 use crate::run::{finish, is_case, write_line};
+use corpus_text::output::write_text;
 use corpus_text::text::{put, whole};
+use std::io::{Stderr, Stdout};
 
 #[derive(Clone, Copy)]
 pub struct State {
@@ -37,7 +39,7 @@ pub fn stopped(state: State) -> State {
 }
 
 // One byte more, that is no newline.
-fn push(line: &mut [u8], state: State, b: u8) -> State {
+fn push(out: Stdout, line: &mut [u8], state: State, b: u8) -> State {
     let n = state.len;
     let sheet = state.sheet;
     if n < line.len() {
@@ -51,9 +53,9 @@ fn push(line: &mut [u8], state: State, b: u8) -> State {
         };
     }
     if state.echo {
-        io::write_all(1, line);
+        write_text(out, line);
     } else if is_case(line) {
-        io::write_all(1, line);
+        write_text(out, line);
     } else {
         return State {
             len: n,
@@ -74,9 +76,9 @@ fn push(line: &mut [u8], state: State, b: u8) -> State {
 }
 
 // The line is over: it is what is left of a case's name, or asks for an outcome.
-fn finished(line: &[u8], sheet: &mut [u8], state: State) -> State {
+fn finished(out: Stdout, err: Stderr, line: &[u8], sheet: &mut [u8], state: State) -> State {
     if state.echo {
-        write_line(line);
+        write_line(out, line);
         return State {
             len: 0,
             cut: false,
@@ -85,7 +87,7 @@ fn finished(line: &[u8], sheet: &mut [u8], state: State) -> State {
             stop: false,
         };
     }
-    let done = finish(line, sheet, state.sheet);
+    let done = finish(out, err, line, sheet, state.sheet);
     State {
         len: 0,
         cut: false,
@@ -95,31 +97,38 @@ fn finished(line: &[u8], sheet: &mut [u8], state: State) -> State {
     }
 }
 
-fn ended(line: &[u8], sheet: &mut [u8], state: State) -> State {
+fn ended(out: Stdout, err: Stderr, line: &[u8], sheet: &mut [u8], state: State) -> State {
     let n = state.len;
     if line.len() < n {
         return state;
     }
     if state.cut {
         let end = whole(&line[0..n]);
-        return finished(&line[0..end], sheet, state);
+        return finished(out, err, &line[0..end], sheet, state);
     }
-    finished(&line[0..n], sheet, state)
+    finished(out, err, &line[0..n], sheet, state)
 }
 
-fn step(line: &mut [u8], sheet: &mut [u8], state: State, b: u8) -> State {
+fn step(out: Stdout, err: Stderr, line: &mut [u8], sheet: &mut [u8], state: State, b: u8) -> State {
     if b == 10 {
-        return ended(line, sheet, state);
+        return ended(out, err, line, sheet, state);
     }
-    push(line, state, b)
+    push(out, line, state, b)
 }
 
 // A chunk of input, up to a line that is not understood.
-pub fn feed(chunk: &[u8], line: &mut [u8], sheet: &mut [u8], begun: State) -> State {
+pub fn feed(
+    out: Stdout,
+    err: Stderr,
+    chunk: &[u8],
+    line: &mut [u8],
+    sheet: &mut [u8],
+    begun: State,
+) -> State {
     let mut state = begun;
     let mut i = 0;
     while i < chunk.len() {
-        state = step(line, sheet, state, chunk[i]);
+        state = step(out, err, line, sheet, state, chunk[i]);
         if state.stop {
             return state;
         }

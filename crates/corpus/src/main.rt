@@ -14,29 +14,44 @@ mod table;
 mod verdict;
 
 use line::State;
+use std::io::{Read, Stderr, Stdin, Stdout};
 
 // Reads once, and goes on with what came.
-fn turn(chunk: &mut [u8], line: &mut [u8], sheet: &mut [u8], state: State) -> State {
-    let got = libc::read(0, chunk);
-    if got <= 0 {
-        return line::stopped(state);
+fn turn(
+    input: &mut Stdin,
+    out: Stdout,
+    err: Stderr,
+    chunk: &mut [u8],
+    line: &mut [u8],
+    sheet: &mut [u8],
+    state: State,
+) -> State {
+    match input.read(chunk) {
+        Ok(0) => line::stopped(state),
+        Ok(n) => line::feed(out, err, &chunk[..n], line, sheet, state),
+        Err(_) => line::stopped(state),
     }
-    let n = io::count(got, chunk);
-    line::feed(&chunk[0..n], line, sheet, state)
 }
 
-// The input's end is not promised, so the loop counts its turns down, from a number that no run uses up.
-fn main() {
-    let mut chunk = io::large_buffer();
+// The input's end is not promised, so the turns are counted, up to a number that no run uses up.
+fn main(rt: HostRuntime) {
+    let mut input = rt.stdin();
+    let mut chunk = [0u8; 65536];
     let mut line = [0u8; 8192];
     let mut sheet = [0u8; 1025];
     let mut state = line::begin();
-    let mut turns = u64::MAX;
-    while turns > 0 {
-        state = turn(&mut chunk, &mut line, &mut sheet, state);
+    for _ in 0..u64::MAX {
+        state = turn(
+            &mut input,
+            rt.stdout(),
+            rt.stderr(),
+            &mut chunk,
+            &mut line,
+            &mut sheet,
+            state,
+        );
         if state.stop {
             return;
         }
-        turns -= 1;
     }
 }

@@ -1,6 +1,8 @@
 // The lines of a corpus: cases, sheets, and calls, each with its outcome.
 use crate::call::answer;
+use corpus_text::output::write_text;
 use corpus_text::text::unescape;
+use std::io::{Stderr, Stdout};
 
 // How many bytes the sheet in hand has then, and whether the line was not understood.
 #[derive(Clone, Copy)]
@@ -13,13 +15,18 @@ pub fn is_case(line: &[u8]) -> bool {
     layout::begins_with(line, b"case ")
 }
 
-pub fn write_line(line: &[u8]) {
-    io::write_all(1, line);
-    io::write_all(1, b"\n");
+pub fn write_line(out: Stdout, line: &[u8]) {
+    write_text(out, line);
+    write_text(out, b"\n");
+}
+
+// If standard error takes no more, the bytes are lost too.
+fn complain(err: Stderr, text: &[u8]) {
+    let _ = err.write_all(text);
 }
 
 // The sheet of a line, in the store; a longer one than the store is as wrong as one that just fills it.
-fn take_sheet(text: &[u8], store: &mut [u8], old: usize) -> Done {
+fn take_sheet(err: Stderr, text: &[u8], store: &mut [u8], old: usize) -> Done {
     let r = unescape(text, store);
     if r.right {
         return Done {
@@ -27,32 +34,32 @@ fn take_sheet(text: &[u8], store: &mut [u8], old: usize) -> Done {
             stop: false,
         };
     }
-    io::write_all(2, b"not understood: a sheet\n");
+    complain(err, b"not understood: a sheet\n");
     Done {
         sheet: old,
         stop: true,
     }
 }
 
-fn operate(line: &[u8], sheet: &[u8]) -> bool {
-    if answer(line, sheet) {
+fn operate(out: Stdout, err: Stderr, line: &[u8], sheet: &[u8]) -> bool {
+    if answer(out, err, line, sheet) {
         return true;
     }
-    io::write_all(2, b"not understood: ");
-    io::write_all(2, line);
-    io::write_all(2, b"\n");
+    complain(err, b"not understood: ");
+    complain(err, line);
+    complain(err, b"\n");
     false
 }
 
 // The operation on the sheet in hand, the first n bytes of its store.
-fn operate_on(line: &[u8], store: &[u8], n: usize) -> bool {
+fn operate_on(out: Stdout, err: Stderr, line: &[u8], store: &[u8], n: usize) -> bool {
     if n <= store.len() {
-        return operate(line, &store[0..n]);
+        return operate(out, err, line, &store[0..n]);
     }
     false
 }
 
-pub fn finish(line: &[u8], sheet: &mut [u8], old: usize) -> Done {
+pub fn finish(out: Stdout, err: Stderr, line: &[u8], sheet: &mut [u8], old: usize) -> Done {
     let n = line.len();
     let same = Done {
         sheet: old,
@@ -65,11 +72,11 @@ pub fn finish(line: &[u8], sheet: &mut [u8], old: usize) -> Done {
         return same;
     }
     if is_case(line) {
-        write_line(line);
+        write_line(out, line);
         return same;
     }
     if layout::same_text(line, b"end") {
-        write_line(line);
+        write_line(out, line);
         return same;
     }
     if layout::same_text(line, b"sheet") {
@@ -80,11 +87,11 @@ pub fn finish(line: &[u8], sheet: &mut [u8], old: usize) -> Done {
     }
     if layout::begins_with(line, b"sheet ") {
         if 6 <= n {
-            return take_sheet(&line[6..n], sheet, old);
+            return take_sheet(err, &line[6..n], sheet, old);
         }
     }
     Done {
         sheet: old,
-        stop: !operate_on(line, sheet, old),
+        stop: !operate_on(out, err, line, sheet, old),
     }
 }

@@ -1,8 +1,10 @@
 // The outcome of Table: the part handed back, and the counts of surviving types.
 use corpus_text::number::at_most;
 use corpus_text::outcome::{write_count, write_end, write_operation, write_refused, write_words};
+use corpus_text::output::write_text;
 use corpus_text::store::{fill_words, same_words, words_kept};
 use lockgraph::{Limits, TableAnswer};
+use std::io::Stdout;
 
 // The first of some words, or another one where there is none.
 fn head(words: &[u64], other: u64) -> u64 {
@@ -45,21 +47,21 @@ fn kept<'a>(first: &'a [u64], second: &'a [u64], answer: TableAnswer, words: usi
 }
 
 // Which store the part handed back is of, and its words.
-fn write_part(first: &mut [u64], second: &[u64], answer: TableAnswer) {
+fn write_part(out: Stdout, first: &mut [u64], second: &[u64], answer: TableAnswer) {
     if is_first(first, second, answer) {
-        io::write_all(1, b" first");
+        write_text(out, b" first");
     } else {
-        io::write_all(1, b" second");
+        write_text(out, b" second");
     }
-    write_words(lockgraph::part(first, second, answer));
+    write_words(out, lockgraph::part(first, second, answer));
 }
 
 // What the answer says, and whether the stores are as it promises.
-fn write_answer(first: &mut [u64], second: &[u64], answer: TableAnswer) {
+fn write_answer(out: Stdout, first: &mut [u64], second: &[u64], answer: TableAnswer) {
     match answer {
         TableAnswer::Refused(k) => {
-            write_refused(k);
-            write_end(kept(first, second, answer, 0));
+            write_refused(out, k);
+            write_end(out, kept(first, second, answer, 0));
         }
         TableAnswer::Done {
             words,
@@ -67,28 +69,35 @@ fn write_answer(first: &mut [u64], second: &[u64], answer: TableAnswer) {
             left,
             rounds,
         } => {
-            write_part(first, second, answer);
-            write_count(b" start ", start);
-            write_count(b" left ", left);
-            write_count(b" rounds ", rounds);
-            write_end(kept(first, second, answer, words));
+            write_part(out, first, second, answer);
+            write_count(out, b" start ", start);
+            write_count(out, b" left ", left);
+            write_count(out, b" rounds ", rounds);
+            write_end(out, kept(first, second, answer, words));
         }
     }
 }
 
 // Table with the stores given.
-fn table_with(l: Limits, sheet: &[u8], naming: u64, first: &mut [u64], second: &mut [u64]) {
+fn table_with(
+    out: Stdout,
+    l: Limits,
+    sheet: &[u8],
+    naming: u64,
+    first: &mut [u64],
+    second: &mut [u64],
+) {
     fill_words(first);
     fill_words(second);
     let answer = lockgraph::table_within(l, sheet, naming, first, second);
-    write_answer(first, second, answer);
+    write_answer(out, first, second, answer);
 }
 
-pub fn table(l: Limits, line: &[u8], sheet: &[u8], naming: u64, one: u64, other: u64) {
+pub fn table(out: Stdout, l: Limits, line: &[u8], sheet: &[u8], naming: u64, one: u64, other: u64) {
     let mut first = [0u64; 128];
     let mut second = [0u64; 128];
     let a = at_most(one, 128);
     let b = at_most(other, 128);
-    write_operation(line);
-    table_with(l, sheet, naming, &mut first[0..a], &mut second[0..b]);
+    write_operation(out, line);
+    table_with(out, l, sheet, naming, &mut first[0..a], &mut second[0..b]);
 }

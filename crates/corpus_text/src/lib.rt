@@ -5,6 +5,7 @@
 pub mod cleaned;
 pub mod number;
 pub mod outcome;
+pub mod output;
 pub mod rows;
 pub mod store;
 pub mod sums;

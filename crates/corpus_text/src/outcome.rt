@@ -1,35 +1,37 @@
 // The parts that the outcome lines of several operations have in common.
+use crate::output::{write_decimal, write_text, write_word};
+use std::io::Stdout;
 
 // The operation as its line gives it, and a colon.
-pub fn write_operation(line: &[u8]) {
-    io::write_all(1, line);
-    io::write_all(1, b":");
+pub fn write_operation(out: Stdout, line: &[u8]) {
+    write_text(out, line);
+    write_text(out, b":");
 }
 
-pub fn write_refused(k: u8) {
-    io::write_all(1, b" refused ");
-    io::print_decimal(1, k as u64);
+pub fn write_refused(out: Stdout, k: u8) {
+    write_text(out, b" refused ");
+    write_decimal(out, k as u64);
 }
 
 // Ends an outcome line, which says last whether a store was written where nothing is promised.
-pub fn write_end(kept: bool) {
+pub fn write_end(out: Stdout, kept: bool) {
     if !kept {
-        io::write_all(1, b" disturbed");
+        write_text(out, b" disturbed");
     }
-    io::write_all(1, b"\n");
+    write_text(out, b"\n");
 }
 
-pub fn write_words(words: &[u64]) {
+pub fn write_words(out: Stdout, words: &[u64]) {
     let mut i = 0;
     while i < words.len() {
-        io::write_all(1, b" ");
-        io::print_hex(1, words[i], 16);
+        write_text(out, b" ");
+        write_word(out, words[i]);
         i += 1;
     }
 }
 
 // A number with what it counts before it.
-pub fn write_count(name: &[u8], n: usize) {
-    io::write_all(1, name);
-    io::print_decimal(1, n as u64);
+pub fn write_count(out: Stdout, name: &[u8], n: usize) {
+    write_text(out, name);
+    write_decimal(out, n as u64);
 }

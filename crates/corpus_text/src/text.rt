@@ -1,6 +1,9 @@
 // Escaped text: `\n` is a newline, `\\` a backslash, `\xHH` any byte; all other bytes stand for themselves.
 ghost use Rattle.std.specs.Prelude.{◌≤◌, length};
 
+use crate::output::{write_hex, write_text};
+use std::io::Stdout;
+
 // The bytes that a text stands for, as far as the store has room, and whether the text is one.
 #[derive(Clone, Copy)]
 pub struct Read {
@@ -135,28 +138,28 @@ pub fn whole(text: &[u8]) -> usize
     n
 }
 
-fn write_byte(b: u8) {
+fn write_byte(out: Stdout, b: u8) {
     if b == 10 {
-        io::write_all(1, b"\\n");
+        write_text(out, b"\\n");
         return;
     }
     if b == 92 {
-        io::write_all(1, b"\\\\");
+        write_text(out, b"\\\\");
         return;
     }
     if b < 32 || 126 < b {
-        io::write_all(1, b"\\x");
-        io::print_hex(1, b as u64, 2);
+        write_text(out, b"\\x");
+        write_hex(out, b);
         return;
     }
-    io::write_all(1, &[b]);
+    write_text(out, &[b]);
 }
 
 // Writes a text escaped.
-pub fn write_escaped(text: &[u8]) {
+pub fn write_escaped(out: Stdout, text: &[u8]) {
     let mut i = 0;
     while i < text.len() {
-        write_byte(text[i]);
+        write_byte(out, text[i]);
         i += 1;
     }
 }

@@ -19,20 +19,32 @@ use frame::Setup;
 use judge::Verdict;
 use limits::Limits;
 use pages::fill_page;
+use std::io::{Stderr, Stdout};
 
 // Hands the next lines of the sheet's text to the output: the first `done` lines, which it has, and these bytes are the first `next`. The limits, the sheet and the newline are
 // there for the contract alone. If the output takes no more, the bytes are lost: there is nowhere else to report that.
-fn write_lines(l: Limits, sheet: &[u8], newline: &[u8], done: &mut u64, next: u64, bytes: &[u8])
+fn write_lines(
+    stdout: Stdout,
+    stderr: Stderr,
+    l: Limits,
+    sheet: &[u8],
+    newline: &[u8],
+    done: &mut u64,
+    next: u64,
+    bytes: &[u8],
+)
     requires { up_to done.old (lines_of l sheet.now newline.now) ++ bytes.now ≡ up_to next (lines_of l sheet.now newline.now) }
     ensures { done.new ≡ next }
 {
-    progress::hide(*done);
-    io::write_all(1, bytes);
+    progress::hide(stderr, *done);
+    let _ = stdout.write_all(bytes);
     *done = next;
 }
 
 // Writes the lines of a sheet that is not refused, page after page. Line 0 is the heading, so naming r's line is line r + 1.
 fn write_pages(
+    stdout: Stdout,
+    stderr: Stderr,
     l: Limits,
     sheet: &[u8],
     newline: &[u8],
@@ -69,28 +81,47 @@ fn write_pages(
         let k = p.used;
         if namings <= next {
             let m = lines::put_verdict(out, k, v, newline);
-            write_lines(l, sheet, newline, done, namings + 3, &out[..m]);
+            write_lines(
+                stdout,
+                stderr,
+                l,
+                sheet,
+                newline,
+                done,
+                namings + 3,
+                &out[..m],
+            );
             return;
         }
-        write_lines(l, sheet, newline, done, next + 1, &out[..k]);
-        progress::show(next, namings);
+        write_lines(stdout, stderr, l, sheet, newline, done, next + 1, &out[..k]);
+        progress::show(stderr, next, namings);
         used = 0;
     }
 }
 
 // Writes the only line of a refused sheet.
-fn refused(l: Limits, sheet: &[u8], k: u8, newline: &[u8], done: &mut u64)
+fn refused(
+    stdout: Stdout,
+    stderr: Stderr,
+    l: Limits,
+    sheet: &[u8],
+    k: u8,
+    newline: &[u8],
+    done: &mut u64,
+)
     requires done_value { done.old ≡ 0 }
     requires k_value { (k ≡ refusal_under l sheet.now) × ((k ≡ 0 → ⊥) × (length newline.now ≤ 16)) }
     ensures { done.new ≡ length (lines_of l sheet.now newline.now) }
 {
     let mut out = [0u8; 128];
     let n = lines::put_refused(&mut out, 0, k, newline);
-    write_lines(l, sheet, newline, done, 1, &out[..n]);
+    write_lines(stdout, stderr, l, sheet, newline, done, 1, &out[..n]);
 }
 
 // Writes the lines of a sheet that is not refused. What depends on the sheet alone is computed once, before the first naming; the last four stores are room for it.
 fn accepted_in(
+    stdout: Stdout,
+    stderr: Stderr,
     l: Limits,
     sheet: &[u8],
     u: Setup,
@@ -112,6 +143,8 @@ fn accepted_in(
     let n = frame::fill(u, tw, cw, ns, base);
     let mut out = [0u8; 8192];
     write_pages(
+        stdout,
+        stderr,
         l,
         sheet,
         newline,
@@ -131,7 +164,15 @@ fn accepted_in(
 }
 
 // The same, in room that has the sheet's size.
-fn accepted(l: Limits, sheet: &[u8], u: Setup, newline: &[u8], done: &mut u64)
+fn accepted(
+    stdout: Stdout,
+    stderr: Stderr,
+    l: Limits,
+    sheet: &[u8],
+    u: Setup,
+    newline: &[u8],
+    done: &mut u64,
+)
     requires done_value { done.old ≡ 0 }
     requires accepts { Accepts sheet.now u × ((refusal_under l sheet.now ≡ 0) × (length newline.now ≤ 16)) }
     ensures { done.new ≡ length (lines_of l sheet.now newline.now) }
@@ -142,7 +183,7 @@ fn accepted(l: Limits, sheet: &[u8], u: Setup, newline: &[u8], done: &mut u64)
         let mut ns = [0u64; 80];
         let mut base = [0u64; 8];
         return accepted_in(
-            l, sheet, u, newline, done, &mut tw, &mut cw, &mut ns, &mut base,
+            stdout, stderr, l, sheet, u, newline, done, &mut tw, &mut cw, &mut ns, &mut base,
         );
     }
     let mut tw = [0u64; 9280];
@@ -150,7 +191,7 @@ fn accepted(l: Limits, sheet: &[u8], u: Setup, newline: &[u8], done: &mut u64)
     let mut ns = [0u64; 144];
     let mut base = [0u64; 128];
     accepted_in(
-        l, sheet, u, newline, done, &mut tw, &mut cw, &mut ns, &mut base,
+        stdout, stderr, l, sheet, u, newline, done, &mut tw, &mut cw, &mut ns, &mut base,
     );
 }
 
@@ -165,7 +206,7 @@ fn ending(newline: &[u8]) -> &[u8]
 }
 
 // Writes what the program prints of a sheet, each line ended by `newline`, or by the first 16 bytes of a longer one, and gives how many lines that is: all that the text has.
-pub fn report(l: Limits, sheet: &[u8], newline: &[u8]) -> u64
+pub fn report(stdout: Stdout, stderr: Stderr, l: Limits, sheet: &[u8], newline: &[u8]) -> u64
     ensures { result ≡ length (lines_of l sheet.now (take 16 newline.now)) }
 {
     let mut done = 0u64;
@@ -173,9 +214,9 @@ pub fn report(l: Limits, sheet: &[u8], newline: &[u8]) -> u64
     let u = frame::set_up(l, sheet);
     let k = u.refusal;
     if k != 0 {
-        refused(l, sheet, k, end, &mut done);
+        refused(stdout, stderr, l, sheet, k, end, &mut done);
         return done;
     }
-    accepted(l, sheet, u, end, &mut done);
+    accepted(stdout, stderr, l, sheet, u, end, &mut done);
     done
 }

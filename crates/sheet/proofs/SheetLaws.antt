@@ -13,7 +13,7 @@ use native.Mathlib.Decide.{dec_le}
 use Rattle.ctl.proofs.BoolLaws.{and_both}
 use Rattle.layout.specs.declared.formulas.Span.{Span}
 use Rattle.layout.specs.Layout.{lines, texts, texts_of, lines_from, ends_right, starts_right, layout_right, LastText, goal_of, last_of}
-use Rattle.head.specs.Head.{kinds, layout_refusal, Accepted, HeadRead}
+use Rattle.head.specs.Head.{layout_refusal, Accepted, HeadRead}
 use Rattle.layout.proofs.ScanLaws.{part_length}
 use Rattle.layout.proofs.LineLaws.{lines_end}
 use Rattle.layout.proofs.FormulaTexts.{texts-length}

@@ -151,7 +151,10 @@ module _ {ms ln : List ℕ} {w : ℕ} {tw cw ns : List ℕ} (r : Ready ms ln w t
       where
         stuck : (a b c : Bool) → (b && c) ≡ false → T a → T c → T (a && not b)
         stuck true true true n p q = subst T n tt
+        stuck false b c n p q = elim p [ ]
+        stuck true true false n p q = elim q [ ]
         stuck true false true n p q = tt
+        stuck true false false n p q = elim q [ ]
 
         -- a type that has what is asked is ranked already
         closed : (Y : List ℕ) (t : ℕ) → t ∈ list_of w src → ((x : ℕ) → x ∈ Y → x ∈ U) → T (asked ms ln i Y t) → t ∈ U

@@ -3,14 +3,37 @@
 // as limits out of their range are.
 #![tactic(auto)]
 
-ghost use Rattle.std.specs.Prelude.{◌≤◌};
+ghost use Rattle.std.specs.Prelude.{◌≤◌, length};
 
 use limits::Limits;
+use std::env::{Env, FillError};
+use std::io::{Read, Stdin};
+
+// Puts an argument at the start of `word` and gives its length, or 0 where there is no such argument, or a longer one.
+fn argument(env: &impl Env, i: usize, word: &mut [u8]) -> usize
+    ensures { result ≤ length word.new }
+{
+    match env.arg(i, word) {
+        Ok(n) => n,
+        Err(_) => 0,
+    }
+}
+
+// How many arguments there are, the program's own name among them.
+fn argument_count(env: &impl Env) -> usize {
+    for i in 0..usize::MAX {
+        let mut byte = [0u8; 1];
+        if let Err(FillError::NotPresent) = env.arg(i, &mut byte) {
+            return i;
+        }
+    }
+    usize::MAX
+}
 
 // Whether the first argument is the word `clean`.
-fn cleaning() -> bool {
+fn cleaning(env: &impl Env) -> bool {
     let mut word = [0u8; 8];
-    let n = os::arg(1, &mut word);
+    let n = argument(env, 1, &mut word);
     layout::same_text(&word[..n], b"clean")
 }
 
@@ -46,15 +69,15 @@ fn number(word: &[u8]) -> usize {
     v
 }
 
-fn limit_at(i: usize) -> usize {
+fn limit_at(env: &impl Env, i: usize) -> usize {
     let mut word = [0u8; 16];
-    let n = os::arg(i, &mut word);
+    let n = argument(env, i, &mut word);
     number(&word[..n])
 }
 
 // The limits that the arguments from `first` on give: none, or two numbers.
-fn limits_from(first: usize) -> Limits {
-    let count = os::arg_count();
+fn limits_from(env: &impl Env, first: usize) -> Limits {
+    let count = argument_count(env);
     if count <= first {
         return limits::usual_limits();
     }
@@ -65,33 +88,55 @@ fn limits_from(first: usize) -> Limits {
         };
     }
     Limits {
-        lean: limit_at(count - 2),
-        closure: limit_at(count - 1),
+        lean: limit_at(env, count - 2),
+        closure: limit_at(env, count - 1),
     }
 }
 
-// Reads what is left of the input and drops it. Its end is not promised, so the loop counts its turns down, from a number that no run uses up.
-fn drain() {
-    let mut chunk = io::large_buffer();
-    let mut turns = u64::MAX;
-    while turns > 0 {
-        if libc::read(0, &mut chunk) <= 0 {
-            return;
+// Reads until the store is full, the input ends or a read fails, and gives how many bytes came.
+fn fill(input: &mut Stdin, store: &mut [u8]) -> usize
+    ensures { result ≤ length store.new }
+{
+    let mut done = 0;
+    while done < store.len() {
+        match input.read(&mut store[done..]) {
+            Ok(0) => return done,
+            Ok(n) => done += n,
+            Err(_) => return done,
         }
-        turns -= 1;
+    }
+    done
+}
+
+// Reads what is left of the input and drops it. Its end is not promised, so the turns are counted, up to a number that no run uses up.
+fn drain(input: &mut Stdin) {
+    let mut chunk = [0u8; 65536];
+    for _ in 0..u64::MAX {
+        match input.read(&mut chunk) {
+            Ok(0) => return,
+            Ok(_) => {}
+            Err(_) => return,
+        }
     }
 }
 
 // A sheet that is longer than the store is as wrong as one that just fills it, so what is past its end is only read, that a writer may finish.
-fn main() {
+fn main(rt: HostRuntime) {
+    let mut input = rt.stdin();
     let mut sheet = [0u8; 1025];
-    let n = io::read_full(0, &mut sheet);
+    let n = fill(&mut input, &mut sheet);
     if n == 1025 {
-        drain();
+        drain(&mut input);
     }
-    if cleaning() {
-        report::report_clean(limits_from(2), &sheet[..n]);
+    if cleaning(&rt) {
+        report::report_clean(rt.stdout(), limits_from(&rt, 2), &sheet[..n]);
         return;
     }
-    report::report(limits_from(1), &sheet[..n], b"\n");
+    report::report(
+        rt.stdout(),
+        rt.stderr(),
+        limits_from(&rt, 1),
+        &sheet[..n],
+        b"\n",
+    );
 }

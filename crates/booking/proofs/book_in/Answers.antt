@@ -16,7 +16,7 @@ fill_one-requires c =
     let hand : c.loop-n.n.number < c.args.namings = in-hand _ c.loop-n.invariant.1.0 c.loop-n-test.true in
     let room : c.loop-n.n.number * c.args.w + c.args.w ≤ length c.loop-n.store = written-room c.loop-n.invariant.0 (hand) in
     let at = c.loop-n in
-    let s = start b6 in record { ready = s.pre.0; places = (s.pre.1.0.0, omega (arith, room, tail-length at.store (at.n.number * s.args.w))) }
+    record { ready = c.requires.ready; places = (c.requires.places.0, omega (arith, room, tail-length at.store (at.n.number * c.args.w))) }
 
 pub loop-n-smaller : goal.loop-n-smaller
 loop-n-smaller c =
@@ -35,12 +35,12 @@ returns c = let inv = c.loop-n.invariant in written-end inv.0 (none_left _ inv.1
 pub overflow_mul-at : goal.overflow_mul-at
 overflow_mul-at c =
     let hand : c.loop-n.n.number < c.args.namings = in-hand _ c.loop-n.invariant.1.0 c.loop-n-test.true in
-    let room : c.loop-n.n.number * c.args.w + c.args.w ≤ length c.loop-n.store = written-room c.loop-n.invariant.0 (hand) in omega (arith, room, c.well-formed)
+    let room : c.loop-n.n.number * c.args.w + c.args.w ≤ length c.loop-n.store = written-room c.loop-n.invariant.0 (hand) in omega (arith, room, c.well_formed)
 
 pub offset_bounds-store-at : goal.offset_bounds-store-at
 offset_bounds-store-at c =
     let hand : c.loop-n.n.number < c.args.namings = in-hand _ c.loop-n.invariant.1.0 c.loop-n-test.true in
-    let room : c.loop-n.n.number * c.args.w + c.args.w ≤ length c.loop-n.store = written-room c.loop-n.invariant.0 (hand) in omega (arith, room, c.well-formed)
+    let room : c.loop-n.n.number * c.args.w + c.args.w ≤ length c.loop-n.store = written-room c.loop-n.invariant.0 (hand) in omega (arith, room, c.well_formed)
 
 pub slice_bounds-fill_one-count : goal.slice_bounds-fill_one-count
 slice_bounds-fill_one-count c =

@@ -1,4 +1,3 @@
-use Prim.Native.Nat.{◌-◌}
 use mathlib.Core.Path.{◌∙◌}
 use native.Mathlib.Omega.{arith}
 use Rattle.closure.proofs.CloseLaws.{loop-first, loop-ready, loop-reads, loop-room, loop-same, loop-same-places, loop-next, loop-beyond, loop-last}

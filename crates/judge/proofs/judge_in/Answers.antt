@@ -20,7 +20,11 @@ loop-n-smaller c =
 
 pub loop-n-preserved : goal.loop-n-preserved
 loop-n-preserved c =
-    let now = c.loop-n in let next = c.advanced-n in let kept = c.try_naming-found.auto.1.1.1.1.1.1.1.1.1.1 in let none = sym c.try_naming-found.ensures ∙ c.in_default.is in (judge-moved (judge-next now.invariant.0 (in-hand now.n now.invariant.1.0 c.loop-n-test.true) none) (next-number now.n next.result next.ensures c.loop-n-test.true), (next-count now.n next.result next.ensures now.invariant.1.0, kept_more now.invariant.1.1 (record { first-long = kept.0; second-long = kept.1.0; copy-long = kept.1.1.0; todo-long = kept.1.1.1.0; v-long = kept.1.1.1.1.0; rest-long = kept.1.1.1.1.1.0 })))
+    let now = c.loop-n in
+    let next = c.advanced-n in
+    let kept = c.try_naming-found.auto in
+    let none = sym c.try_naming-found.ensures ∙ c.in_default.is in
+    (judge-moved (judge-next now.invariant.0 (in-hand now.n now.invariant.1.0 c.loop-n-test.true) none) (next-number now.n next.result next.ensures c.loop-n-test.true), (next-count now.n next.result next.ensures now.invariant.1.0, kept_more now.invariant.1.1 (record { first-long = kept.first; second-long = kept.second; copy-long = kept.copy; todo-long = kept.todo; v-long = kept.v; rest-long = kept.rest })))
 
 pub returns : goal.returns
 returns c =

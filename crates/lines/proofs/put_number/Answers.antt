@@ -5,8 +5,8 @@ use Rattle.lines.proofs.put_number.Goals as goal
 
 pub put-requires : goal.put-requires
 put-requires c =
-    let s = number_short c.ranges.x.fits c.decimal-k.ensures.len c.decimal-k.new.out.0 in
+    let s = number_short c.ranges.x.fits c.decimal-k.ensures.len c.decimal-k.new.out in
     omega (arith, c.requires)
 
 pub returns : goal.returns
-returns c = let p = number_put c.ranges.x.fits c.decimal-k.ensures.len c.decimal-k.new.out.0 c.decimal-k.ensures.1.1 c.put.ensures in record { put = p.0; upper_bound = p.1 }
+returns c = let p = number_put c.ranges.x.fits c.decimal-k.ensures.len c.decimal-k.new.out c.decimal-k.ensures.1.1 c.put.ensures in record { put = p.0; upper_bound = p.1 }

@@ -12,7 +12,7 @@ abbrev Turned : goal.After-advanced-n → Type 0
 Turned c =
     let s = c.args in
     Paging (row_at s.ms.now s.ln.now s.w s.base.now s.names.now s.newline.now) (goals_at s.ms.now s.ln.now s.w s.base.now s.names.now s.goal)
-    s.start s.used s.out.now c.put_naming-k.new.out c.fill_table-c.new.first c.fill_table-c.new.second.0 c.later-v.result c.put_naming-k.result c.advanced-n.result
+    s.start s.used s.out.now c.put_naming-k.new.out c.fill_table-c.new.first c.fill_table-c.new.second c.later-v.result c.put_naming-k.result c.advanced-n.result
 
 pub loop-n-init : goal.loop-n-init
 loop-n-init c =

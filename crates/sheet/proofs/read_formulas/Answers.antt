@@ -2,7 +2,7 @@ use native.Mathlib.Omega.{arith}
 use Rattle.sheet.proofs.FormulaLaws.{going_start, going-last, going-room, going_step, texts-none, texts-end}
 use Rattle.layout.proofs.ScanLaws.{part_length}
 use lib.ListN.{length-set}
-use Prim.Native.Nat.{◌<◌, ◌-◌}
+use Prim.Native.Nat.{◌<◌}
 use mathlib.Core.Path.{refl, ◌∙◌}
 use Rattle.sheet.proofs.read_formulas.Goals as goal
 

@@ -1,3 +1,4 @@
+use borrow.Enum.Refused.{opened}
 use native.Mathlib.Omega.{arith}
 use mathlib.Core.Path.{refl, sym, ap}
 use mathlib.Core.List.{[], ◌∷◌}
@@ -9,7 +10,7 @@ use Rattle.operators.proofs.ModeLaws.{modes-done}
 use Rattle.syntax.proofs.UnitLaws.{unit-leaf, unit-letter, unit-not, unit-not-wrong, unit-open, unit-open-wrong, unit-unclosed, unit-none, unit-operator, unit-operator-wrong, unit-operator-unbraced, unit-path, unit-path-unbraced}
 use Rattle.syntax.proofs.FormulaLaws.{formula-wrong-unit, formula-more, more-none, more-lower, more-higher, more-right-wrong, more-joined, more-on}
 use Rattle.syntax.proofs.PathLaws.{path-none, path-left-wrong, path-no-operator, path-other, path-right-wrong, path-no-close, path-reads}
-use Prim.Native.Nat.{ℕ, ◌-◌}
+use Prim.Native.Nat.{ℕ}
 use Rattle.syntax.proofs.+formula_more_path_unit.Goals as goal
 
 pub formula-returns-in_default : goal.formula-returns-in_default
@@ -26,7 +27,7 @@ formula-returns t c =
 
 pub more-returns-in_default : goal.more-returns-in_default
 more-returns-in_default t c =
-    more-none _ _ _ _ _ _ _ _ c.requires.0 c.requires.1.0 _ c.next_token-t.ensures c.in_default.in_default-own.keys2
+    more-none _ _ _ _ _ _ _ _ c.requires.0 c.requires.1.0 _ c.next_token-t.ensures (opened c.in_default.in_default-own.keys2)
 
 pub more-returns-then-l-level : goal.more-returns-then-l-level
 more-returns-then-l-level t c =
@@ -68,8 +69,8 @@ pub more-overflow_add-total : goal.more-overflow_add-total
 more-overflow_add-total t c =
     omega (arith, c.requires, c.formula.auto, token-past c.next_token-t.ensures c.in-Infix.is refl, reads-done c.formula.ensures c.in-Done.is)
 
-pub more-requires : goal.more-requires
-more-requires t c =
+pub more-more-requires : goal.more-more-requires
+more-more-requires t c =
     omega (arith, c.requires, c.formula.auto, c.emit-joined.auto, c.if-l-level.false, c.if-top-l.false, token-past c.next_token-t.ensures c.in-Infix.is refl, reads-done c.formula.ensures c.in-Done.is)
 
 pub more-returns : goal.more-returns
@@ -78,7 +79,7 @@ more-returns t c =
 
 pub path-returns-in_default : goal.path-returns-in_default
 path-returns-in_default t c =
-    path-none _ _ _ _ _ _ _ _ _ c.next_token-t.ensures c.in_default.in_default-own.keys2
+    path-none _ _ _ _ _ _ _ _ _ c.next_token-t.ensures (opened c.in_default.in_default-own.keys2)
 
 pub path-formula-requires : goal.path-formula-requires
 path-formula-requires t c =
@@ -94,7 +95,7 @@ path-next_token-u-requires t c =
 
 pub path-returns-in_default-o : goal.path-returns-in_default-o
 path-returns-in_default-o t c =
-    path-no-operator _ _ _ _ _ _ _ _ _ c.next_token-t.ensures c.in-Open.is _ _ c.formula.ensures _ _ _ c.in-Done.is _ c.next_token-u.ensures c.in_default-o.in_default-o-own.keys2
+    path-no-operator _ _ _ _ _ _ _ _ _ c.next_token-t.ensures c.in-Open.is _ _ c.formula.ensures _ _ _ c.in-Done.is _ c.next_token-u.ensures (opened c.in_default-o.in_default-o-own.keys2)
 
 pub path-returns-in_default-choose : goal.path-returns-in_default-choose
 path-returns-in_default-choose t c =
@@ -114,7 +115,7 @@ path-next_token-v-requires t c =
 
 pub path-returns-in_default-d : goal.path-returns-in_default-d
 path-returns-in_default-d t c =
-    path-no-close _ _ _ _ _ _ _ _ _ c.next_token-t.ensures c.in-Open.is _ _ c.formula.ensures _ _ _ c.in-Done.is _ c.next_token-u.ensures _ c.in-Capital.is _ c.choose.ensures _ c.in-Is.is _ _ c.formula-2.ensures _ _ _ c.in-Done-formula.is _ c.next_token-v.ensures c.in_default-d.in_default-d-own.keys2
+    path-no-close _ _ _ _ _ _ _ _ _ c.next_token-t.ensures c.in-Open.is _ _ c.formula.ensures _ _ _ c.in-Done.is _ c.next_token-u.ensures _ c.in-Capital.is _ c.choose.ensures _ c.in-Is.is _ _ c.formula-2.ensures _ _ _ c.in-Done-formula.is _ c.next_token-v.ensures (opened c.in_default-d.in_default-d-own.keys2)
 
 pub path-overflow_sub-count : goal.path-overflow_sub-count
 path-overflow_sub-count t c =
@@ -148,8 +149,8 @@ pub unit-emit-requires-in-Letter : goal.unit-emit-requires-in-Letter
 unit-emit-requires-in-Letter t c =
     omega (arith, c.requires, token-past c.next_token-t.ensures c.in-Letter.is refl)
 
-pub unit-requires : goal.unit-requires
-unit-requires t c =
+pub unit-unit-requires : goal.unit-unit-requires
+unit-unit-requires t c =
     omega (arith, token-past c.next_token-t.ensures c.in-Not.is refl)
 
 pub unit-returns-in_default-unit : goal.unit-returns-in_default-unit
@@ -176,8 +177,8 @@ pub unit-returns-in_default-braces : goal.unit-returns-in_default-braces
 unit-returns-in_default-braces t c =
     unit-operator-unbraced _ _ _ _ _ _ _ _ c.next_token-t.ensures c.in-Operator.is c.braces.ensures c.in_default-braces.is
 
-pub unit-requires-in-Operator : goal.unit-requires-in-Operator
-unit-requires-in-Operator t c =
+pub unit-unit-requires-in-Operator : goal.unit-unit-requires-in-Operator
+unit-unit-requires-in-Operator t c =
     omega (arith, c.requires, token-past c.next_token-t.ensures c.in-Operator.is refl, modes-done c.braces.ensures.1 c.in-Set.is)
 
 pub unit-returns-in_default-unit-2 : goal.unit-returns-in_default-unit-2
@@ -222,7 +223,7 @@ unit-returns-in-Close t c =
 
 pub unit-returns-in_default-c : goal.unit-returns-in_default-c
 unit-returns-in_default-c t c =
-    unit-unclosed _ _ _ _ _ _ _ _ c.next_token-t.ensures c.in-Open.is c.formula.ensures _ _ _ _ c.in-Done-formula.is c.next_token-u.ensures c.in_default-c.in_default-c-own.keys2
+    unit-unclosed _ _ _ _ _ _ _ _ c.next_token-t.ensures c.in-Open.is c.formula.ensures _ _ _ _ c.in-Done-formula.is c.next_token-u.ensures (opened c.in_default-c.in_default-c-own.keys2)
 
 pub unit-returns-in-Done-unit : goal.unit-returns-in-Done-unit
 unit-returns-in-Done-unit t c =

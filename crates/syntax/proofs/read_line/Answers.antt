@@ -1,5 +1,6 @@
 -- `syntax::read_line` meets its contract, by the laws of `LineLaws`.
 -- Assumes nothing.
+use borrow.Enum.Refused.{opened}
 use native.Mathlib.Omega.{arith}
 use Rattle.syntax.proofs.Reading.{reads-done}
 use Rattle.syntax.proofs.LineLaws.{line-wrong, line-done, line-more}
@@ -19,4 +20,4 @@ returns-in-End c =
 
 pub returns-in_default-k : goal.returns-in_default-k
 returns-in_default-k c =
-    line-more _ _ _ _ _ _ _ c.formula.ensures _ _ _ c.in-Done.is _ c.next_token-t.ensures c.in_default-k.in_default-k-own.keys2
+    line-more _ _ _ _ _ _ _ c.formula.ensures _ _ _ c.in-Done.is _ c.next_token-t.ensures (opened c.in_default-k.in_default-k-own.keys2)

@@ -1,5 +1,4 @@
 use Rattle.token.proofs.Spaces.{skip-here, skip-space, skip-end}
-use Prim.Native.Nat.{◌-◌}
 use mathlib.Core.Path.{refl, sym, ◌∙◌}
 use native.Mathlib.Omega.{arith}
 use Rattle.token.proofs.skip_spaces.Goals as goal

@@ -1,4 +1,3 @@
-use Prim.Native.Nat.{◌-◌}
 use native.Mathlib.Omega.{arith}
 use Rattle.values.proofs.TableLaws.{sofar-none, sofar-ready, sofar-room, sofar-next, sofar-all}
 use Rattle.values.proofs.with_values.Goals as goal

@@ -1,6 +1,5 @@
 use Rattle.head.specs.Head.{declared}
 use mathlib.Core.Path.{refl, sym, ◌∙◌}
-use Prim.Native.Nat.{◌-◌}
 use Rattle.head.proofs.DeclareLaws.{place-low, declare-more, declare-out, declare-end}
 use lib.ListN.{get_or, length-set}
 use native.Mathlib.Omega.{arith}
@@ -31,7 +30,8 @@ bounds-tab-place_of c =
     omega (arith, c.place_of.ensures, place-low c.loop-i.i (get_or c.args.kinds.now c.loop-i.i 0) (omega arith))
 
 pub offset_bounds-tab-place_of : goal.offset_bounds-tab-place_of
-offset_bounds-tab-place_of c = omega (arith, array-write-tab c)
+offset_bounds-tab-place_of c =
+    omega (arith, c.place_of.ensures, place-low c.loop-i.i (get_or c.args.kinds.now c.loop-i.i 0) (omega arith))
 
 pub overflow_add-i : goal.overflow_add-i
 overflow_add-i c = omega arith

@@ -1,8 +1,7 @@
 use native.Mathlib.Omega.{arith}
 use Rattle.head.proofs.WordLaws.{count-name, skip-name, end-name}
-use Prim.Native.Nat.{◌-◌}
-use mathlib.Core.Logic.{⊎_elim}
 use Rattle.head.proofs.kinds.name_count.Goals as goal
+use Rattle.head.proofs.kinds.name_count.Goals.{then-ks-i-eq2, else-ks-i-eq2}
 
 pub loop-i-init : goal.loop-i-init
 loop-i-init c = (omega arith, (omega arith, omega arith))
@@ -21,7 +20,10 @@ loop-i-smaller c = omega arith
 
 pub loop-i-preserved : goal.loop-i-preserved
 loop-i-preserved c =
-    ⊎_elim (λ w. omega (arith, count-name c.args.ks.now c.loop-i.i c.loop-i-test.true w.0.taken)) (λ w. omega (arith, skip-name c.args.ks.now c.loop-i.i c.loop-i-test.true w.0.left)) c.if-ks-i-eq2.branch
+    elim c.if-ks-i-eq2.branch [
+      | then-ks-i-eq2 w ↦ omega (arith, count-name c.args.ks.now c.loop-i.i c.loop-i-test.true w.if-ks-i-eq2.true)
+      | else-ks-i-eq2 w ↦ omega (arith, skip-name c.args.ks.now c.loop-i.i c.loop-i-test.true w.if-ks-i-eq2.false)
+    ]
 
 pub returns : goal.returns
 returns c =

@@ -4,7 +4,7 @@ use Rattle.head.specs.Head.{kind_of, kind_right}
 use borrow.Author.Tests.{not-true, not-false}
 use lib.Seq.{length-take-le}
 use lib.ListN.{length-set}
-use Prim.Native.Nat.{ℕ, ◌-◌}
+use Prim.Native.Nat.{ℕ}
 use mathlib.Core.Bool.{Bool}
 use mathlib.Core.List.{List}
 use mathlib.Core.Path.{◌≡◌, refl, sym, ◌∙◌}
@@ -44,13 +44,14 @@ bounds-kinds-n c =
     collect-room c.loop-kinds.invariant c.end_of-e.ensures.0 c.end_of-e.ensures.1.1 kind-few (sym (right_is _ _ c.kind_of-k.ensures c.kind_right.ensures) ∙ not-false _ c.if-not-kind_right.false-raw)
 
 pub overflow_add-n : goal.overflow_add-n
-overflow_add-n c = omega (arith, array-write-kinds c)
+overflow_add-n c =
+    omega (arith, collect-room c.loop-kinds.invariant c.end_of-e.ensures.0 c.end_of-e.ensures.1.1 kind-few (sym (right_is _ _ c.kind_of-k.ensures c.kind_right.ensures) ∙ not-false _ c.if-not-kind_right.false-raw))
 
 pub returns-then-line-e : goal.returns-then-line-e
 returns-then-line-e c =
     let p = c.loop-kinds.invariant in
     let r = sym (right_is _ _ c.kind_of-k.ensures c.kind_right.ensures) ∙ not-false _ c.if-not-kind_right.false-raw in
-    record { few = omega (arith, array-write-kinds c.before); room = simp length-set p.room; are = collect-last p c.end_of-e.ensures.0 c.end_of-e.ensures.1.1 kind-few r c.kind_of-k.ensures c.if-line-e.true }
+    record { few = omega (arith, collect-room p c.end_of-e.ensures.0 c.end_of-e.ensures.1.1 kind-few r); room = simp length-set p.room; are = collect-last p c.end_of-e.ensures.0 c.end_of-e.ensures.1.1 kind-few r c.kind_of-k.ensures c.if-line-e.true }
 
 pub overflow_add-at : goal.overflow_add-at
 overflow_add-at c = omega arith

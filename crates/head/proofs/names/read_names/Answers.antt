@@ -1,4 +1,3 @@
-use Prim.Native.Nat.{◌-◌}
 use lib.Seq.{length-take-le}
 use native.Mathlib.Omega.{arith}
 use Rattle.head.proofs.WordLaws.{collect-wrong, collect-room, collect-last, collect-next, word-few, word-spelled}
@@ -43,16 +42,18 @@ bounds-words-n c =
     collect-room c.loop-words.invariant c.end_of-e.ensures.0 c.end_of-e.ensures.1.1 word-few (sym c.name_right.ensures ∙ not-false _ c.if-not-name_right.false-raw)
 
 pub offset_bounds-words-n : goal.offset_bounds-words-n
-offset_bounds-words-n c = omega (arith, array-write-words c)
+offset_bounds-words-n c =
+    omega (arith, collect-room c.loop-words.invariant c.end_of-e.ensures.0 c.end_of-e.ensures.1.1 word-few (sym c.name_right.ensures ∙ not-false _ c.if-not-name_right.false-raw))
 
 pub overflow_add-n : goal.overflow_add-n
-overflow_add-n c = omega (arith, array-write-words c)
+overflow_add-n c =
+    omega (arith, collect-room c.loop-words.invariant c.end_of-e.ensures.0 c.end_of-e.ensures.1.1 word-few (sym c.name_right.ensures ∙ not-false _ c.if-not-name_right.false-raw))
 
 pub returns-then-line-e : goal.returns-then-line-e
 returns-then-line-e c =
     let p = c.loop-words.invariant in
     let r = sym c.name_right.ensures ∙ not-false _ c.if-not-name_right.false-raw in
-    record { few = omega (arith, array-write-words c.before); room = simp length-set p.room; are = collect-last p c.end_of-e.ensures.0 c.end_of-e.ensures.1.1 word-few r c.word_from.ensures.0 c.if-line-e.true }
+    record { few = omega (arith, collect-room p c.end_of-e.ensures.0 c.end_of-e.ensures.1.1 word-few r); room = simp length-set p.room; are = collect-last p c.end_of-e.ensures.0 c.end_of-e.ensures.1.1 word-few r c.word_from.ensures.0 c.if-line-e.true }
 
 pub overflow_add-at : goal.overflow_add-at
 overflow_add-at c = omega arith

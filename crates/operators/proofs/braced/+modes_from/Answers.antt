@@ -1,8 +1,8 @@
+use borrow.Enum.Refused.{opened}
 use mathlib.Core.Path.{refl}
 use native.Mathlib.Omega.{arith}
 use Rattle.token.proofs.Tokens.{token-past}
 use Rattle.operators.proofs.ModeLaws.{mode-behind, modes-wrong, modes-none, modes-last, modes-more}
-use Prim.Native.Nat.{◌-◌}
 use Rattle.operators.proofs.braced.+modes_from.Goals as goal
 
 pub returns-in_default : goal.returns-in_default
@@ -23,4 +23,4 @@ returns-in-CloseBrace t c =
 
 pub returns-in_default-k : goal.returns-in_default-k
 returns-in_default-k t c =
-    modes-none _ _ _ _ _ _ c.next_two-two.ensures.first-is _ c.one_mode.ensures _ _ _ c.in-Set.is _ c.next_two-two.ensures.second_is c.in_default-k.in_default-k-own.keys3
+    modes-none _ _ _ _ _ _ c.next_two-two.ensures.first-is _ c.one_mode.ensures _ _ _ c.in-Set.is _ c.next_two-two.ensures.second_is (opened c.in_default-k.in_default-k-own.keys3)

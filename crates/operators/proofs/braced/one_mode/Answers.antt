@@ -1,5 +1,6 @@
 -- `braced::one_mode` meets its contract, by the laws of `ModeLaws`.
 -- Assumes nothing.
+use borrow.Enum.Refused.{opened}
 use Rattle.operators.proofs.ModeLaws.{mode-forward, mode-backward, mode-none}
 use Rattle.operators.proofs.braced.one_mode.Goals as goal
 
@@ -12,4 +13,4 @@ returns-in-Capital c =
     mode-backward _ _ _ _ _ _ c.in-Capital.is c.entry-in-Capital.ensures c.with_mode-m-in-Capital.ensures
 
 pub returns-in_default : goal.returns-in_default
-returns-in_default c = mode-none _ _ _ c.in_default.in_default-own.keys3
+returns-in_default c = mode-none _ _ _ (opened c.in_default.in_default-own.keys3)

@@ -5,6 +5,7 @@ use Rattle.wordset.specs.Words.{member}
 use Rattle.truth.proofs.ListWords.{pick-member}
 use Rattle.tableau.proofs.NeedFits.{among-blocks, among-mode, need-of, next-kept, next-none, until-of, until-whole}
 use Rattle.tableau.proofs.Rounding.{ex-stays, kept-all, kept-as, until-leave, until-stay}
+use borrow.Author.Rules.{rules}
 use Rattle.tableau.proofs.eliminate.eliminate_need.Goals as goal
 
 pub pick-requires : goal.pick-requires
@@ -26,7 +27,7 @@ returns-then-pick c =
 
 pub returns-else-pick : goal.returns-else-pick
 returns-else-pick c =
-    λ ms ln r. kept-all ms ln _ c.args.tw.now c.args.cw.now c.args.src.now _ c.args.x (λ k h. (c.type_inv.dst k).fits)
+    λ ms ln r. kept-all ms ln _ c.args.tw.now c.args.cw.now c.args.src.now _ c.args.x (λ k h. search rules)
     (λ t l. ex-stays ms ln _ c.args.tw.now c.args.cw.now c.args.src.now _ c.args.x _ c.tag.ensures c.if-tag-eq6.true t (next-none _ _ c.args.cw.now (member c.args.src.now) _ c.args.x c.whole.ensures (sym c.pick.ensures.value ∙ c.if-pick.false) t l))
 
 pub search-requires : goal.search-requires
@@ -35,7 +36,7 @@ search-requires c = record { among = (c.requires.among.0, ((λ e. c.if-tag-eq6.f
 pub returns-then-search : goal.returns-then-search
 returns-then-search c =
     λ ms ln r. (let k = until-of r (need-of r c.requires.among.0) (λ e. c.if-tag-eq6.false (c.tag.ensures ∙ e)) in
-    kept-all ms ln _ c.args.tw.now c.args.cw.now c.args.src.now _ c.args.x (λ k h. (c.type_inv.dst k).fits)
+    kept-all ms ln _ c.args.tw.now c.args.cw.now c.args.src.now _ c.args.x (λ k h. search rules)
     (until-stay ms ln _ c.args.tw.now c.args.cw.now c.args.src.now _ c.args.x _ k.0 c.tag.ensures c.if-tag-eq6.false (until-whole r k.1) c.requires.w_in_bounds.0 c.requires.within _ (c.search.ensures.by_index ms ln k.0 r k.1) (c.search.ensures.t_after c.if-search.true)))
 
 pub pick-requires-2 : goal.pick-requires-2

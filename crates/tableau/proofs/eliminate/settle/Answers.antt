@@ -9,7 +9,12 @@ loop-w-init c =
     record { long = refl; long-second = refl; long-copy = refl; long-todo = refl; long-v = refl; long_rest = refl; is = λ ms ln r. before-start c.requires.w_in_bounds.0 c.requires.w_in_bounds.1 (λ k l. (c.type_inv.first k).fits) }
 
 pub round-requires : goal.round-requires
-round-requires c = let p = (let r = c.requires.made.2 in let ms = c.requires.made.0 in let ln = c.requires.made.1 in let b = c.loop-w.invariant.is ms ln r in (c.requires.made, ((let l = b.long in let h = c.requires.w_in_bounds.0 in omega arith), (let l = b.long' in let h = c.requires.w_in_bounds.1 in omega arith), (let l = c.loop-w.invariant.long-copy in let h = c.requires.w_in_bounds.2 in omega arith), (let l = c.loop-w.invariant.long-todo in let h = c.requires.w_in_bounds.3 in omega arith), (let l = c.loop-w.invariant.long-v in let h = c.requires.w_in_bounds.4 in omega arith), (let l = c.loop-w.invariant.long_rest in let h = c.requires.w_in_bounds.5 in omega arith)))) in record { made = p.0; w_in_bounds = p.1 }
+round-requires c =
+    let r = c.requires.made.2 in
+    let ms = c.requires.made.0 in
+    let ln = c.requires.made.1 in
+    let b = c.loop-w.invariant.is ms ln r in
+    record { made = c.requires.made; w_in_bounds = ((let l = b.long in let h = c.requires.w_in_bounds.0 in omega arith), (let l = b.long' in let h = c.requires.w_in_bounds.1 in omega arith), (let l = c.loop-w.invariant.long-copy in let h = c.requires.w_in_bounds.2 in omega arith), (let l = c.loop-w.invariant.long-todo in let h = c.requires.w_in_bounds.3 in omega arith), (let l = c.loop-w.invariant.long-v in let h = c.requires.w_in_bounds.4 in omega arith), (let l = c.loop-w.invariant.long_rest in let h = c.requires.w_in_bounds.5 in omega arith)) }
 
 pub returns-then-round : goal.returns-then-round
 returns-then-round c = record { by_index = (λ ms ln r. (settled (c.loop-w.invariant.is ms ln r) _ (c.round.ensures.by_index ms ln r) _ c.round.ensures.value c.if-round.true).0); by_index_2 = (λ ms ln r. (settled (c.loop-w.invariant.is ms ln r) _ (c.round.ensures.by_index ms ln r) _ c.round.ensures.value c.if-round.true).1); by_index_3 = (λ ms ln r. (settled (c.loop-w.invariant.is ms ln r) _ (c.round.ensures.by_index ms ln r) _ c.round.ensures.value c.if-round.true).2) }
@@ -19,7 +24,12 @@ overflow_add-n c =
     (let r = c.requires.made.2 in let ms = c.requires.made.0 in let ln = c.requires.made.1 in let b = c.loop-w.invariant.is ms ln r in let h = b.bound in let f = fewer b _ (c.round.ensures.by_index ms ln r) _ c.round.ensures.value c.if-round.false in let s = r.small in omega arith)
 
 pub round-requires-in-loop-w : goal.round-requires-in-loop-w
-round-requires-in-loop-w c = let p = (let r = c.requires.made.2 in let ms = c.requires.made.0 in let ln = c.requires.made.1 in let b = c.loop-w.invariant.is ms ln r in (c.requires.made, ((let l = b.long' in let h = c.requires.w_in_bounds.1 in let k = c.round.auto.dst in omega arith), (let l = b.long in let h = c.requires.w_in_bounds.0 in omega arith), (let l = c.loop-w.invariant.long-copy in let h = c.requires.w_in_bounds.2 in let k = c.round.auto.copy in omega arith), (let l = c.loop-w.invariant.long-todo in let h = c.requires.w_in_bounds.3 in let k = c.round.auto.todo in omega arith), (let l = c.loop-w.invariant.long-v in let h = c.requires.w_in_bounds.4 in let k = c.round.auto.v in omega arith), (let l = c.loop-w.invariant.long_rest in let h = c.requires.w_in_bounds.5 in let k = c.round.auto.rest in omega arith)))) in record { made = p.0; w_in_bounds = p.1 }
+round-requires-in-loop-w c =
+    let r = c.requires.made.2 in
+    let ms = c.requires.made.0 in
+    let ln = c.requires.made.1 in
+    let b = c.loop-w.invariant.is ms ln r in
+    record { made = c.requires.made; w_in_bounds = ((let l = b.long' in let h = c.requires.w_in_bounds.1 in let k = c.round.auto.dst in omega arith), (let l = b.long in let h = c.requires.w_in_bounds.0 in omega arith), (let l = c.loop-w.invariant.long-copy in let h = c.requires.w_in_bounds.2 in let k = c.round.auto.copy in omega arith), (let l = c.loop-w.invariant.long-todo in let h = c.requires.w_in_bounds.3 in let k = c.round.auto.todo in omega arith), (let l = c.loop-w.invariant.long-v in let h = c.requires.w_in_bounds.4 in let k = c.round.auto.v in omega arith), (let l = c.loop-w.invariant.long_rest in let h = c.requires.w_in_bounds.5 in let k = c.round.auto.rest in omega arith)) }
 
 pub shape_of-first-then-round-2 : goal.shape_of-first-then-round-2
 shape_of-first-then-round-2 c =
