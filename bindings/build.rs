@@ -1,6 +1,6 @@
 //! Links the proved library, liblockgraph_c.a.
 //!
-//! It lies in target/staticlib of the project, where `rt staticlib lockgraph_c` writes it. The environment variable LOCKGRAPH_LIB may
+//! It lies in crates/lockgraph_c/out of the project, where `rt lib` in crates/lockgraph_c writes it. The environment variable LOCKGRAPH_LIB may
 //! name another folder, absolute or as seen from the folder of this crate.
 
 use std::env;
@@ -26,7 +26,7 @@ fn folder() -> PathBuf {
     let here = PathBuf::from(
         env::var_os("CARGO_MANIFEST_DIR").expect("cargo names the folder of the crate"),
     );
-    here.join(named.unwrap_or_else(|| PathBuf::from("../target/staticlib")))
+    here.join(named.unwrap_or_else(|| PathBuf::from("../crates/lockgraph_c/out")))
 }
 
 fn link(folder: &Path) {
@@ -36,7 +36,7 @@ fn link(folder: &Path) {
 
 fn missing(folder: &Path) -> String {
     format!(
-        "{ARCHIVE} is not in {}. `rt staticlib lockgraph_c` in the project proves and writes it; LOCKGRAPH_LIB may name another folder.",
+        "{ARCHIVE} is not in {}. `rt lib` in crates/lockgraph_c proves and writes it; LOCKGRAPH_LIB may name another folder.",
         folder.display()
     )
 }

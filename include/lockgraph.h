@@ -1,5 +1,5 @@
 /* The public library for C and Rust: judges a sheet's bytes, two functions for each operation, without limits and within given ones. The functions are those of crates/lockgraph_c, whose contracts say
- * for every argument what is returned and written; `rt staticlib lockgraph_c` proves them and writes target/staticlib/liblockgraph_c.a, for x86-64 Linux, which needs memcpy and
+ * for every argument what is returned and written; `rt lib` in crates/lockgraph_c proves them and writes crates/lockgraph_c/out/liblockgraph_c.a, for x86-64 Linux, which needs memcpy and
  * memset of the C library alone. Rust declares the same prototypes in an `extern "C"` block, with `usize` for size_t.
  *
  * What a caller owes, which nothing tests:

@@ -81,10 +81,12 @@ module _ (spell : ℕ → List ℕ) where
   -- what holds of each formula's line, behind either word, holds of each line
   lines-each : (Q : List ℕ → Type 0) (ps : List Form) → ((p : Form) → p ∈ ps → Q (all_word ++ print spell p) × Q (goal_word ++ print spell p)) → (l : List ℕ) → l ∈ formula_lines spell ps → Q l
   unfolding formula_lines
+  lines-each Q [] f l m = elim m [ ]
   lines-each Q (p ∷ []) f l m = go (Memᴰ.cases_cons m)
     where
       go : (l ≡ goal_word ++ print spell p) ⊎ (l ∈ []) → Q l
       go (inl e) = subst Q (sym e) (f p (Memᴰ.head refl)).1
+      go (inr i) = elim i [ ]
   lines-each Q (p ∷ q ∷ r) f l m = go (Memᴰ.cases_cons m) (lines-each Q (q ∷ r) (λ a i. f a (Memᴰ.tail i)) l)
     where
       go : (l ≡ all_word ++ print spell p) ⊎ (l ∈ formula_lines spell (q ∷ r)) → (l ∈ formula_lines spell (q ∷ r) → Q l) → Q l

@@ -31,6 +31,7 @@ unique-none t (x ∷ l) f = ap (λ b. length (put b x (keep (eqb t) l))) (ne_eqb
 
 unique-each : (t : ℕ) (l : List ℕ) → Unique l → t ∈ l → occurrences t l ≡ 1
 unfolding occurrences
+unique-each t [] u m = elim m [ ]
 unique-each t (x ∷ l) (more g u) (Memᴰ.head e) =
     ap (λ b. length (put b x (keep (eqb t) l))) (eq-eqb t x e) ∙ ap suc (unique-none t l (λ m. g (subst (λ y. y ∈ l) e m)))
 unique-each t (x ∷ l) (more g u) (Memᴰ.tail m) =

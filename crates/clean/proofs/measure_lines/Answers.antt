@@ -1,16 +1,20 @@
 use mathlib.Core.Path.{◌≡◌, sym, ap, ◌∙◌}
-use mathlib.Core.Logic.{⊎_elim}
-use Prim.Native.Nat.{◌-◌, ◌≤◌}
+use Prim.Native.Nat.{◌≤◌}
 use native.Mathlib.Omega.{arith}
 use lib.ListN.{length}
 use Rattle.clean.proofs.LineText.{word_by, word-all, word-goal, summed-start, summed-next, summed-over, summed-all}
 use Rattle.clean.proofs.measure_lines.Goals as goal
+use Rattle.clean.proofs.measure_lines.Goals.{Joined-i-places, then-i-places, else-i-places}
 
-word-long : (c : goal.Joined-i-places) → (length (word_by c.loop-i.i (length c.args.places.now)) ≡ c.if-i-places.word) × (c.if-i-places.word ≤ 5)
+-- the word's length, as the line has it
+word-long : (c : Joined-i-places) → (length (word_by c.loop-i.i (length c.args.places.now)) ≡ c.if-i-places.word) × (c.if-i-places.word ≤ 5)
 word-long c =
     let i = c.loop-i.i in
     let many = length c.args.places.now in
-    ⊎_elim (λ w. (ap length (word-all i many w.0.taken) ∙ sym w.1, omega arith)) (λ w. (ap length (word-goal i many w.0.left) ∙ sym w.1, omega arith)) c.if-i-places.branch
+    elim c.if-i-places.branch [
+      | then-i-places w ↦ (ap length (word-all i many w.if-i-places.true) ∙ sym w.word-is, omega arith)
+      | else-i-places w ↦ (ap length (word-goal i many w.if-i-places.false) ∙ sym w.word-is, omega arith)
+    ]
 
 pub loop-i-init : goal.loop-i-init
 loop-i-init c = summed-start
@@ -27,25 +31,25 @@ bounds-lens-places c =
     omega (arith, c.requires.printable.1 c.loop-i.i c.loop-i-test.true)
 
 pub overflow_sub-word : goal.overflow_sub-word
-overflow_sub-word c = omega (arith, word-long c.before.before.before)
+overflow_sub-word c = omega (arith, word-long (goal.at.overflow_sub-word c).Joined-i-places)
 
 pub returns-then-word-long : goal.returns-then-word-long
 returns-then-word-long c =
-    let w = word-long b4 in
+    let w = word-long (goal.at.returns-then-word-long c).Joined-i-places in
     summed-over c.loop-i.invariant c.requires.printable.0 c.requires.printable.1 c.loop-i-test.true w.0 c.if-word-long.true
 
 pub overflow_add-size : goal.overflow_add-size
-overflow_add-size c = omega (arith, word-long c.before.before.before.before)
+overflow_add-size c = omega (arith, word-long (goal.at.overflow_add-size c).Joined-i-places)
 
 pub overflow_add-size-in-loop-i : goal.overflow_add-size-in-loop-i
-overflow_add-size-in-loop-i c = omega (arith, word-long c.before.before.before.before)
+overflow_add-size-in-loop-i c = omega (arith, word-long (goal.at.overflow_add-size-in-loop-i c).Joined-i-places)
 
 pub overflow_add-size-in-loop-i-2 : goal.overflow_add-size-in-loop-i-2
-overflow_add-size-in-loop-i-2 c = omega (arith, word-long c.before.before.before.before)
+overflow_add-size-in-loop-i-2 c = omega (arith, word-long (goal.at.overflow_add-size-in-loop-i-2 c).Joined-i-places)
 
 pub loop-i-preserved : goal.loop-i-preserved
 loop-i-preserved c =
-    let w = word-long b4 in
+    let w = word-long (goal.at.loop-i-preserved c).Joined-i-places in
     summed-next c.loop-i.invariant c.requires.printable.0 c.requires.printable.1 c.loop-i-test.true w.0 c.if-word-long.false w.1
 
 pub returns : goal.returns

@@ -5,7 +5,7 @@ use Rattle.clean.proofs.LineText.{Lined}
 use Rattle.clean.proofs.put_lines.Given as goal
 
 abbrev pub invariant-loop-i : goal.invariant-loop-i
-invariant-loop-i l = Lined l.tab l.n l.words l.places l.at l.initial.out l.i i used
+invariant-loop-i l = Lined l.tab l.n l.words l.places l.at l.initial.out l.out l.i l.used
 
 abbrev pub decreases-loop-i : goal.decreases-loop-i
-decreases-loop-i l = length l.places - i
+decreases-loop-i l = length l.places - l.i

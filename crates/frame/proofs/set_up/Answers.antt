@@ -28,24 +28,24 @@ slice_bounds-frame_of-end-2 c =
 
 pub slice_bounds-kinds-end : goal.slice_bounds-kinds-end
 slice_bounds-kinds-end c =
-    symbols-within c.read-reading.ensures c.number-k.ensures c.if-k-ne0.false (length_unmapped u64-field.Value c.read-reading.result.words 8 c.read-reading.type-inv.1.1.1.1.0.1.0.1) (length_unmapped u8-field.Value c.read-reading.result.kinds 8 c.read-reading.type-inv.1.1.1.1.1.0.1.0.1)
+    symbols-within c.read-reading.ensures c.number-k.ensures c.if-k-ne0.false c.read-reading.type_inv.1.1.1.1.0.1.0.1 c.read-reading.type_inv.1.1.1.1.1.0.1.0.1
 
 pub slice_bounds-frame_of-end-3 : goal.slice_bounds-frame_of-end-3
 slice_bounds-frame_of-end-3 c =
-    sym (length-take-le _ _ (symbols-within c.read-reading.ensures c.number-k.ensures c.if-k-ne0.false (length_unmapped u64-field.Value c.read-reading.result.words 8 c.read-reading.type-inv.1.1.1.1.0.1.0.1) (length_unmapped u8-field.Value c.read-reading.result.kinds 8 c.read-reading.type-inv.1.1.1.1.1.0.1.0.1)))
+    sym (length-take-le _ _ (symbols-within c.read-reading.ensures c.number-k.ensures c.if-k-ne0.false c.read-reading.type_inv.1.1.1.1.0.1.0.1 c.read-reading.type_inv.1.1.1.1.1.0.1.0.1))
 
 pub slice_bounds-places-end : goal.slice_bounds-places-end
 slice_bounds-places-end c =
-    formulas-within c.read-reading.ensures c.number-k.ensures c.if-k-ne0.false (length_unmapped usize-field.Value c.read-reading.result.places 5 c.read-reading.type-inv.1.1.1.1.1.1.1.0.1.0.1)
+    formulas-within c.read-reading.ensures c.number-k.ensures c.if-k-ne0.false c.read-reading.type_inv.1.1.1.1.1.1.1.0.1.0.1
 
 pub slice_bounds-frame_of-end-4 : goal.slice_bounds-frame_of-end-4
 slice_bounds-frame_of-end-4 c =
-    sym (length-take-le _ _ (formulas-within c.read-reading.ensures c.number-k.ensures c.if-k-ne0.false (length_unmapped usize-field.Value c.read-reading.result.places 5 c.read-reading.type-inv.1.1.1.1.1.1.1.0.1.0.1)))
+    sym (length-take-le _ _ (formulas-within c.read-reading.ensures c.number-k.ensures c.if-k-ne0.false c.read-reading.type_inv.1.1.1.1.1.1.1.0.1.0.1))
 
 pub frame_of-f-requires : goal.frame_of-f-requires
 frame_of-f-requires c =
-    frame-asked c.read-reading.ensures c.number-k.ensures c.if-k-ne0.false (length_unmapped usize-field.Value c.read-reading.result.places 5 c.read-reading.type-inv.1.1.1.1.1.1.1.0.1.0.1) refl refl refl
+    frame-asked c.read-reading.ensures c.number-k.ensures c.if-k-ne0.false c.read-reading.type_inv.1.1.1.1.1.1.1.0.1.0.1 refl refl refl
 
 pub returns : goal.returns
 returns c =
-    setup-accepted c.read-reading.ensures c.number-k.ensures c.if-k-ne0.false (length_unmapped usize-field.Value c.read-reading.result.places 5 c.read-reading.type-inv.1.1.1.1.1.1.1.0.1.0.1) c.frame_of-f.ensures c.frame_of-f.auto.globals c.frame_of-f.auto.names c.frame_of-f.auto.values
+    setup-accepted c.read-reading.ensures c.number-k.ensures c.if-k-ne0.false c.read-reading.type_inv.1.1.1.1.1.1.1.0.1.0.1 c.frame_of-f.ensures c.frame_of-f.auto.globals c.frame_of-f.auto.names c.frame_of-f.auto.values

@@ -1,5 +1,4 @@
 use native.Mathlib.Omega.{arith}
-use Prim.Native.Nat.{◌-◌}
 use Rattle.buffer.proofs.PutLaws.{copying-start, copying-byte, copied_all}
 use Rattle.clean.proofs.print.put_pre.Goals as goal
 

@@ -17,11 +17,11 @@ slice_bounds-read-end c =
 
 pub slice_bounds-kinds-end : goal.slice_bounds-kinds-end
 slice_bounds-kinds-end c =
-    symbols-within c.read-reading.ensures c.number-k.ensures c.if-k-ne0.false (length_unmapped u64-field.Value c.read-reading.result.words 8 c.read-reading.type-inv.1.1.1.1.0.1.0.1) (length_unmapped u8-field.Value c.read-reading.result.kinds 8 c.read-reading.type-inv.1.1.1.1.1.0.1.0.1)
+    symbols-within c.read-reading.ensures c.number-k.ensures c.if-k-ne0.false c.read-reading.type_inv.1.1.1.1.0.1.0.1 c.read-reading.type_inv.1.1.1.1.1.0.1.0.1
 
 pub slice_bounds-read-end-2 : goal.slice_bounds-read-end-2
 slice_bounds-read-end-2 c =
-    sym (length-take-le _ _ (symbols-within c.read-reading.ensures c.number-k.ensures c.if-k-ne0.false (length_unmapped u64-field.Value c.read-reading.result.words 8 c.read-reading.type-inv.1.1.1.1.0.1.0.1) (length_unmapped u8-field.Value c.read-reading.result.kinds 8 c.read-reading.type-inv.1.1.1.1.1.0.1.0.1)))
+    sym (length-take-le _ _ (symbols-within c.read-reading.ensures c.number-k.ensures c.if-k-ne0.false c.read-reading.type_inv.1.1.1.1.0.1.0.1 c.read-reading.type_inv.1.1.1.1.1.0.1.0.1))
 
 pub read-requires : goal.read-requires
 read-requires c =
@@ -52,17 +52,17 @@ bounds-places-last c =
 
 pub slice_bounds-places-end : goal.slice_bounds-places-end
 slice_bounds-places-end c =
-    let h = last-few c.read-reading.ensures c.number-k.ensures c.if-k-ne0.false in let l = (length_unmapped usize-field.Value c.read-reading.result.places 5 c.read-reading.type-inv.1.1.1.1.1.1.1.0.1.0.1) in omega arith
+    let h = last-few c.read-reading.ensures c.number-k.ensures c.if-k-ne0.false in let l = c.read-reading.type_inv.1.1.1.1.1.1.1.0.1.0.1 in omega arith
 
 pub slice_bounds-fill_row-end-in-Nodes-2 : goal.slice_bounds-fill_row-end-in-Nodes-2
 slice_bounds-fill_row-end-in-Nodes-2 c =
-    sym (length-take-le _ _ (let h = last-few c.read-reading.ensures c.number-k.ensures c.if-k-ne0.false in let l = (length_unmapped usize-field.Value c.read-reading.result.places 5 c.read-reading.type-inv.1.1.1.1.1.1.1.0.1.0.1) in omega arith))
+    sym (length-take-le _ _ (let h = last-few c.read-reading.ensures c.number-k.ensures c.if-k-ne0.false in let l = c.read-reading.type_inv.1.1.1.1.1.1.1.0.1.0.1 in omega arith))
 
 pub fill_row-requires : goal.fill_row-requires
-fill_row-requires c = let p = fill-asked c.read-reading.ensures c.number-k.ensures c.if-k-ne0.false _ c.end_of-e.ensures _ c.read.result c.read.new.out c.read.ensures c.in-Nodes.is c.args.row.now c.read.auto.out (length_unmapped u64-field.Value c.read-reading.result.members 136 c.read-reading.type-inv.1.1.1.1.1.1.1.1.1.0.1.0.1) (length_unmapped usize-field.Value c.read-reading.result.places 5 c.read-reading.type-inv.1.1.1.1.1.1.1.0.1.0.1) c.if-row-n.false in record { n_bound = p.0; n_in_bounds = p.1 }
+fill_row-requires c = let p = fill-asked c.read-reading.ensures c.number-k.ensures c.if-k-ne0.false _ c.end_of-e.ensures _ c.read.result c.read.new.out c.read.ensures c.in-Nodes.is c.args.row.now c.read.auto.out c.read-reading.type_inv.1.1.1.1.1.1.1.1.1.0.1.0.1 c.read-reading.type_inv.1.1.1.1.1.1.1.0.1.0.1 c.if-row-n.false in record { n_bound = p.0; n_in_bounds = p.1 }
 
 pub returns-in-Refused : goal.returns-in-Refused
 returns-in-Refused c = let is = text-refused c.read-reading.ensures c.number-k.ensures c.if-k-ne0.false _ c.end_of-e.ensures _ c.read.result c.read.new.out c.read.ensures _ c.in-Refused.is in record { snapshot_is = is; snapshot_means = snapshot-means _ _ _ is }
 
 pub returns-else-row-n : goal.returns-else-row-n
-returns-else-row-n c = let is = snapshot-done c.read-reading.ensures c.number-k.ensures c.if-k-ne0.false _ c.end_of-e.ensures _ c.read.result c.read.new.out c.read.ensures c.in-Nodes.is c.args.row.now _ (length_unmapped usize-field.Value c.read-reading.result.places 5 c.read-reading.type-inv.1.1.1.1.1.1.1.0.1.0.1) c.if-row-n.false c.fill_row.ensures in record { snapshot_is = is; snapshot_means = snapshot-means _ _ _ is }
+returns-else-row-n c = let is = snapshot-done c.read-reading.ensures c.number-k.ensures c.if-k-ne0.false _ c.end_of-e.ensures _ c.read.result c.read.new.out c.read.ensures c.in-Nodes.is c.args.row.now _ c.read-reading.type_inv.1.1.1.1.1.1.1.0.1.0.1 c.if-row-n.false c.fill_row.ensures in record { snapshot_is = is; snapshot_means = snapshot-means _ _ _ is }
