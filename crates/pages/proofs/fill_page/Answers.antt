@@ -1,22 +1,14 @@
 use mathlib.Core.Path.{refl, sym, subst}
-use Prim.Native.Nat.{◌-◌, ◌≤◌}
+use Prim.Native.Nat.{◌≤◌}
 use native.Mathlib.Omega.{arith}
 use Rattle.naming.proofs.NextLaws.{next-less, next-number}
-use Rattle.judge.specs.Judged.{goals_at}
 use Rattle.judge.proofs.JudgeLaws.{found-is}
-use Rattle.pages.specs.Pages.{row_at}
-use Rattle.pages.proofs.PageLaws.{Paging, counted, first-room, page-done, paging-next, paging-start, second-room}
+use Rattle.pages.proofs.PageLaws.{counted, first-room, page-done, paging-next, paging-start, second-room}
 use Rattle.pages.proofs.fill_page.Goals as goal
-
-abbrev Turned : goal.After-advanced-n → Type 0
-Turned c =
-    let s = c.args in
-    Paging (row_at s.ms.now s.ln.now s.w s.base.now s.names.now s.newline.now) (goals_at s.ms.now s.ln.now s.w s.base.now s.names.now s.goal)
-    s.start s.used s.out.now c.put_naming-k.new.out c.fill_table-c.new.first c.fill_table-c.new.second c.later-v.result c.put_naming-k.result c.advanced-n.result
 
 pub loop-n-init : goal.loop-n-init
 loop-n-init c =
-    let p = c.requires.1.1 in (paging-start p.1.0 p.0 refl refl, p.1.1.0)
+    let p = c.requires.number_le_count in (paging-start p.0 c.requires.judged refl refl, p.1.0)
 
 pub fill_table-c-requires : goal.fill_table-c-requires
 fill_table-c-requires c = let w = c.requires.places.1.0 in let at = c.loop-n.invariant.0 in record { ready = c.requires.ready; places = (c.requires.places.0, (w, (first-room at w, second-room at w))) }
@@ -32,22 +24,18 @@ pub overflow_sub-out : goal.overflow_sub-out
 overflow_sub-out c =
     let i = c.loop-n.invariant.1 in let l = c.put_naming-k.auto.out in let m = c.put_naming-k.ensures.upper_bound in omega arith
 
-pub shape_of-out-then-out-k-lt256 : goal.shape_of-out-then-out-k-lt256
-shape_of-out-then-out-k-lt256 c =
-    let turned : Turned c = let at = c.loop-n in
-    let i = at.invariant.1 in
-    let kept = c.fill_table-c.auto.1.1.1.1.1.1.1.1.1 in
-    let found = found-is _ _ _ _ _ _ _ at.first _ _ (first-room at.invariant.0 c.requires.places.1.0) c.fill_table-c.ensures.first_holds c.goal_type-found.ensures in
-    paging-next at.invariant.0 c.loop-n-test.true (omega arith) c.put_naming-k.ensures.put (counted _ _ _ _ _ _ _ c.fill_table-c.ensures) c.put_naming-k.auto.out kept.0 kept.1.0 found c.later-v.ensures c.advanced-n.ensures in (turned).out-same
-
 pub returns-then-out-k-lt256 : goal.returns-then-out-k-lt256
 returns-then-out-k-lt256 c =
-    let turned : Turned c = let at = c.loop-n in
+    -- a turn, where the naming has been advanced: what is in the buffer and judged then
+    let at = c.loop-n in
     let i = at.invariant.1 in
-    let kept = c.fill_table-c.auto.1.1.1.1.1.1.1.1.1 in
+    let l = c.put_naming-k.auto.out in
+    let m = c.put_naming-k.ensures.upper_bound in
     let found = found-is _ _ _ _ _ _ _ at.first _ _ (first-room at.invariant.0 c.requires.places.1.0) c.fill_table-c.ensures.first_holds c.goal_type-found.ensures in
-    paging-next at.invariant.0 c.loop-n-test.true (omega arith) c.put_naming-k.ensures.put (counted _ _ _ _ _ _ _ c.fill_table-c.ensures) c.put_naming-k.auto.out kept.0 kept.1.0 found c.later-v.ensures c.advanced-n.ensures in
-    let i = c.loop-n.invariant.1 in let o = c.loop-n.invariant.0.onward in let l = c.put_naming-k.auto.out in let m = c.put_naming-k.ensures.upper_bound in page-done (turned) (λ h. omega (arith, next-number _ _ c.advanced-n.ensures c.loop-n-test.true)) (omega arith)
+    let turned = paging-next at.invariant.0 c.loop-n-test.true (omega arith) c.put_naming-k.ensures.put (counted _ _ _ _ _ _ _ c.fill_table-c.ensures) l
+    c.fill_table-c.auto.first c.fill_table-c.auto.second found c.later-v.ensures c.advanced-n.ensures in
+    let o = at.invariant.0.onward in
+    page-done turned (λ h. omega (arith, next-number _ _ c.advanced-n.ensures c.loop-n-test.true)) (omega arith)
 
 pub loop-n-smaller : goal.loop-n-smaller
 loop-n-smaller c =
@@ -55,16 +43,15 @@ loop-n-smaller c =
 
 pub loop-n-preserved : goal.loop-n-preserved
 loop-n-preserved c =
-    let turned : Turned c = let at = c.loop-n in
+    -- a turn, where the naming has been advanced: what is in the buffer and judged then
+    let at = c.loop-n in
     let i = at.invariant.1 in
-    let kept = c.fill_table-c.auto.1.1.1.1.1.1.1.1.1 in
+    let l = c.put_naming-k.auto.out in
+    let m = c.put_naming-k.ensures.upper_bound in
     let found = found-is _ _ _ _ _ _ _ at.first _ _ (first-room at.invariant.0 c.requires.places.1.0) c.fill_table-c.ensures.first_holds c.goal_type-found.ensures in
-    paging-next at.invariant.0 c.loop-n-test.true (omega arith) c.put_naming-k.ensures.put (counted _ _ _ _ _ _ _ c.fill_table-c.ensures) c.put_naming-k.auto.out kept.0 kept.1.0 found c.later-v.ensures c.advanced-n.ensures in
-    let i = c.loop-n.invariant.1 in let l = c.put_naming-k.auto.out in let m = c.put_naming-k.ensures.upper_bound in (turned, omega arith)
-
-pub shape_of-out : goal.shape_of-out
-shape_of-out c =
-    c.loop-n.invariant.0.out-same
+    let turned = paging-next at.invariant.0 c.loop-n-test.true (omega arith) c.put_naming-k.ensures.put (counted _ _ _ _ _ _ _ c.fill_table-c.ensures) l
+    c.fill_table-c.auto.first c.fill_table-c.auto.second found c.later-v.ensures c.advanced-n.ensures in
+    (turned, omega arith)
 
 pub returns : goal.returns
 returns c =
