@@ -11,10 +11,15 @@ put_heading-used-requires c =
 
 pub loop-n-init : goal.loop-n-init
 loop-n-init c =
-    printing-start c.requires.prints c.requires.done_value c.requires.in_bounds.0 c.put_heading-used.ensures c.put_heading-used.auto.out c.first-n.ensures
+    let heading = c.put_heading-used.ensures in
+    printing-start c.requires.prints c.requires.done_value c.requires.in_bounds.0 (heading.put, heading.upper_bound) c.put_heading-used.auto.out c.first-n.ensures
 
 pub fill_page-p-requires : goal.fill_page-p-requires
-fill_page-p-requires c = let at = c.loop-n.invariant in let p = c.requires.1.1 in let i = at.counts in let j = at.within in record { ready = p.0; places = p.1.0; judged = at.judged; number_le_count = (omega arith, (at.room, p.1.1.1)) }
+fill_page-p-requires c =
+    let at = c.loop-n.invariant in
+    let i = at.counts in
+    let j = at.within in
+    record { ready = c.requires.ready; places = c.requires.places; judged = at.judged; number_le_count = (omega arith, (at.room, c.requires.in_bounds.1)) }
 
 pub put_verdict-m-requires : goal.put_verdict-m-requires
 put_verdict-m-requires c =
@@ -62,4 +67,4 @@ loop-n-smaller c =
 
 pub loop-n-preserved : goal.loop-n-preserved
 loop-n-preserved c =
-    let p = c.requires.1 in let q = p.1.1.1.0 in let k = c.put_heading-used.auto.out in printing-next p.0 c.loop-n.invariant c.fill_page-p.ensures c.if-namings-next.false (omega arith) c.fill_page-p.auto.out c.write_lines-in-loop-n.ensures
+    let q = c.requires.in_bounds.0 in let k = c.put_heading-used.auto.out in printing-next c.requires.prints c.loop-n.invariant c.fill_page-p.ensures c.if-namings-next.false (omega arith) c.fill_page-p.auto.out c.write_lines-in-loop-n.ensures
