@@ -20,6 +20,8 @@ digit n = ap (λ b. cond b (48 + n % 10) (87 + n % 10)) (lt-ltb (n % 10) 10 (ome
 -- a number below `most`, in the fewest digits
 digits_are : (k most n : ℕ) → n < most → n < 10 ^ suc k → (1 ≤ k → 10 ^ k ≤ n) → digits most n ≡ Kit.last_digits 10 (suc k) n
 unfolding digits
+digits_are zero zero n h a b = elim h [ ]
+digits_are (suc k) zero n h a b = elim h [ ]
 digits_are zero (suc most) n h a b = ap₂ (λ t d. cond t [] (digits most (n / 10)) ++ (d ∷ [])) (lt-ltb n 10 a) (sym (digit n))
 digits_are (suc k) (suc most) n h a b =
     let p = pow-suc 10 k in

@@ -9,4 +9,4 @@ put-requires c =
     omega (arith, c.requires)
 
 pub returns : goal.returns
-returns c = let p = number_put c.ranges.x.fits c.decimal-k.ensures.len c.decimal-k.new.out c.decimal-k.ensures.1.1 c.put.ensures in record { put = p.0; upper_bound = p.1 }
+returns c = let p = number_put c.ranges.x.fits c.decimal-k.ensures.len c.decimal-k.new.out c.decimal-k.ensures.digits c.put.ensures in record { put = p.0; upper_bound = p.1 }
