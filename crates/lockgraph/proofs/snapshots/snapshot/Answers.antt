@@ -3,4 +3,8 @@ use mathlib.Core.Path.{sym}
 use Rattle.lockgraph.proofs.snapshots.snapshot.Goals as goal
 
 pub returns : goal.returns
-returns c = let p = rw (sym c.usual_limits.ensures) c.snapshot_within.ensures in record { snapshot_is = p.0; snapshot_means = p.1 }
+returns c =
+    record {
+      snapshot_is = rw (sym c.usual_limits.ensures) c.snapshot_within.ensures.snapshot_is;
+      snapshot_means = rw (sym c.usual_limits.ensures) c.snapshot_within.ensures.snapshot_means;
+    }

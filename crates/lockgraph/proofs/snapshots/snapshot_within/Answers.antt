@@ -28,7 +28,7 @@ read-requires c =
     (kinds-few c.read-reading.ensures c.number-k.ensures c.if-k-ne0.false, whole)
 
 pub returns-then-row-n : goal.returns-then-row-n
-returns-then-row-n c = let is = row-short c.read-reading.ensures c.number-k.ensures c.if-k-ne0.false _ c.end_of-e.ensures _ c.read.result c.read.new.out c.read.ensures c.in-Nodes.is _ c.if-row-n.true in record { snapshot_is = is; snapshot_means = snapshot-means _ _ _ is }
+returns-then-row-n c = let is = row-short c.read-reading.ensures c.number-k.ensures c.if-k-ne0.false _ c.end_of-e.ensures _ c.read.result c.read.new.out (c.read.ensures.value, (c.read.ensures.out_after, c.read.ensures.few)) c.in-Nodes.is _ c.if-row-n.true in record { snapshot_is = is; snapshot_means = snapshot-means _ _ _ is }
 
 pub overflow_sub-last : goal.overflow_sub-last
 overflow_sub-last c =
@@ -59,10 +59,10 @@ slice_bounds-fill_row-end-in-Nodes-2 c =
     sym (length-take-le _ _ (let h = last-few c.read-reading.ensures c.number-k.ensures c.if-k-ne0.false in let l = c.read-reading.type_inv.1.1.1.1.1.1.1.0.1.0.1 in omega arith))
 
 pub fill_row-requires : goal.fill_row-requires
-fill_row-requires c = let p = fill-asked c.read-reading.ensures c.number-k.ensures c.if-k-ne0.false _ c.end_of-e.ensures _ c.read.result c.read.new.out c.read.ensures c.in-Nodes.is c.args.row.now c.read.auto.out c.read-reading.type_inv.1.1.1.1.1.1.1.1.1.0.1.0.1 c.read-reading.type_inv.1.1.1.1.1.1.1.0.1.0.1 c.if-row-n.false in record { n_bound = p.0; n_in_bounds = p.1 }
+fill_row-requires c = let p = fill-asked c.read-reading.ensures c.number-k.ensures c.if-k-ne0.false _ c.end_of-e.ensures _ c.read.result c.read.new.out (c.read.ensures.value, (c.read.ensures.out_after, c.read.ensures.few)) c.in-Nodes.is c.args.row.now c.read.auto.out c.read-reading.type_inv.1.1.1.1.1.1.1.1.1.0.1.0.1 c.read-reading.type_inv.1.1.1.1.1.1.1.0.1.0.1 c.if-row-n.false in record { n_bound = p.0; n_in_bounds = p.1 }
 
 pub returns-in-Refused : goal.returns-in-Refused
-returns-in-Refused c = let is = text-refused c.read-reading.ensures c.number-k.ensures c.if-k-ne0.false _ c.end_of-e.ensures _ c.read.result c.read.new.out c.read.ensures _ c.in-Refused.is in record { snapshot_is = is; snapshot_means = snapshot-means _ _ _ is }
+returns-in-Refused c = let is = text-refused c.read-reading.ensures c.number-k.ensures c.if-k-ne0.false _ c.end_of-e.ensures _ c.read.result c.read.new.out (c.read.ensures.value, (c.read.ensures.out_after, c.read.ensures.few)) _ c.in-Refused.is in record { snapshot_is = is; snapshot_means = snapshot-means _ _ _ is }
 
 pub returns-else-row-n : goal.returns-else-row-n
-returns-else-row-n c = let is = snapshot-done c.read-reading.ensures c.number-k.ensures c.if-k-ne0.false _ c.end_of-e.ensures _ c.read.result c.read.new.out c.read.ensures c.in-Nodes.is c.args.row.now _ c.read-reading.type_inv.1.1.1.1.1.1.1.0.1.0.1 c.if-row-n.false c.fill_row.ensures in record { snapshot_is = is; snapshot_means = snapshot-means _ _ _ is }
+returns-else-row-n c = let is = snapshot-done c.read-reading.ensures c.number-k.ensures c.if-k-ne0.false _ c.end_of-e.ensures _ c.read.result c.read.new.out (c.read.ensures.value, (c.read.ensures.out_after, c.read.ensures.few)) c.in-Nodes.is c.args.row.now _ c.read-reading.type_inv.1.1.1.1.1.1.1.0.1.0.1 c.if-row-n.false c.fill_row.ensures in record { snapshot_is = is; snapshot_means = snapshot-means _ _ _ is }

@@ -3,4 +3,9 @@ use mathlib.Core.Path.{sym}
 use Rattle.lockgraph.proofs.verdicts.verdict.Goals as goal
 
 pub returns : goal.returns
-returns c = let p = rw (sym c.usual_limits.ensures) c.verdict_within.ensures in record { value = p.0; verdict_demand2 = p.1.0; verdict_demand3 = p.1.1 }
+returns c =
+    record {
+      value = rw (sym c.usual_limits.ensures) c.verdict_within.ensures.value;
+      verdict_demand2 = rw (sym c.usual_limits.ensures) c.verdict_within.ensures.verdict_demand2;
+      verdict_demand3 = rw (sym c.usual_limits.ensures) c.verdict_within.ensures.verdict_demand3;
+    }
