@@ -4,7 +4,6 @@ use mathlib.Core.List.{List, ◌++◌, append_assoc, append-nil}
 use Prim.Native.Nat.{ℕ, ◌+◌, ◌≤◌, ◌<◌}
 use native.Mathlib.Omega.{arith}
 use lib.ListN.{length, take}
-use Rattle.ctl.specs.Tableau as Tableau
 use Rattle.limits.specs.declared.Limits.{Limits}
 use Rattle.naming.specs.Next.{start_of}
 use Rattle.naming.specs.declared.Naming.{Naming}
