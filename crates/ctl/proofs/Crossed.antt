@@ -13,7 +13,7 @@ use Rattle.ctl.specs.Formula.{Form}
 use Rattle.ctl.specs.Numbers.{with_place}
 use Rattle.ctl.specs.Types.{in_type, truth}
 use Rattle.ctl.specs.Links.{link_by}
-use Rattle.ctl.specs.Tableau.{Tableau, name_places, places_but, set_bits, namings, pack, obeys_from, obeys, valued, starts, start_types}
+use Rattle.ctl.specs.Tableau.{Tableau, name_places, places_but, set_bits, pack, obeys_from, obeys, valued, starts, start_types}
 use Rattle.ctl.specs.Elimination.{survivors}
 use Rattle.ctl.specs.Verdict.{unsatisfiable, surviving_types, verdict}
 use Rattle.ctl.specs.Judging.{verdict_from}

@@ -7,7 +7,6 @@ use lib.ListN.{length, drop, length-map}
 use lib.Seq.{length-take-le}
 use Rattle.ctl.specs.Positive.{positive}
 use Rattle.ctl.specs.Tableau.{Tableau, namings, start_types}
-use Rattle.ctl.specs.Verdict as Ctl
 use Rattle.ctl.specs.Verdict.{rounds_of, surviving_types}
 use Rattle.sheet.specs.Reading.{formulas, goal_of}
 use Rattle.tableau.specs.Families.{Ready, Rounds, Survivors}
@@ -24,7 +23,7 @@ use Rattle.wordset.specs.Words.{packed}
 use Rattle.ctl.specs.Lists.{elem}
 use Rattle.booking.specs.Booked.{tables_by}
 use Rattle.booking.proofs.BookLaws.{tables-ext}
-use Rattle.frame.specs.Framed.{Framed, Stores}
+use Rattle.frame.specs.Framed.{Framed}
 use Rattle.frame.specs.SetUp.{Accepts, frame_in, globals_in, lean_in, members_in, names_in, values_in}
 use Rattle.frame.specs.declared.Setup.{Setup}
 use Rattle.frame.proofs.Stores as Stores

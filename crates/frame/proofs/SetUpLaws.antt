@@ -12,7 +12,7 @@ use Rattle.head.specs.Head.{kinds}
 use Rattle.head.proofs.Spellings.{sheet-spellings}
 use Rattle.sheet.proofs.RefusalLaws.{right-kinds}
 use Rattle.sheet.specs.Refusal.{read_refusal}
-use Rattle.sheet.specs.Reading.{formulas, values_in}
+use Rattle.sheet.specs.Reading.{values_in}
 use Rattle.sheet.proofs.SizeLaws.{formulas-many, texts-five}
 use Rattle.reader.specs.declared.Reading.{Reading}
 use Rattle.reader.specs.Reader.{Says, members, number_of}

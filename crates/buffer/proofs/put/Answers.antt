@@ -1,5 +1,4 @@
 use native.Mathlib.Omega.{arith}
-use Prim.Native.Nat.{◌-◌}
 use Rattle.buffer.proofs.PutLaws.{copying-start, copying-next, copied_all}
 use Rattle.buffer.proofs.put.Goals as goal
 

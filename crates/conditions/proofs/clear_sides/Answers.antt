@@ -1,4 +1,3 @@
-use Prim.Native.Nat.{◌-◌}
 use native.Mathlib.Omega.{arith}
 use Rattle.conditions.proofs.Sides.{clear-on, clear-start}
 use Rattle.conditions.proofs.clear_sides.Goals as goal

@@ -1,5 +1,4 @@
 use mathlib.Core.Path.{◌∙◌}
-use Prim.Native.Nat.{◌-◌}
 use native.Mathlib.Omega.{arith}
 use Rattle.conditions.proofs.Siding.{going_start, going_on, going_end}
 use Rattle.conditions.proofs.put_conditions.Goals as goal

@@ -1,4 +1,3 @@
-use Prim.Native.Nat.{◌-◌}
 use native.Mathlib.Omega.{arith}
 use Rattle.conditions.proofs.Sides.{sum-end, sum-on, sum-start}
 use Rattle.conditions.proofs.put_sums.Goals as goal

@@ -1,4 +1,3 @@
-use Prim.Native.Nat.{◌-◌}
 use native.Mathlib.Omega.{arith}
 use Rattle.conditions.proofs.Sides.{turn_end, turn_on, turn-start}
 use Rattle.conditions.proofs.turn_sides.Goals as goal

@@ -1,4 +1,3 @@
-use Prim.Native.Nat.{◌-◌}
 use Rattle.wordset.proofs.Filling.{begins, goes, ends}
 use Rattle.edges.proofs.edge_words.Goals as goal
 

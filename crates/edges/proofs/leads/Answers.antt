@@ -1,9 +1,6 @@
-use Prim.Native.Nat.{◌-◌}
 use mathlib.Core.Path.{sym, ◌∙◌}
-use mathlib.Core.Bool.{false}
 use borrow.Author.Count.{below_more}
 use native.Mathlib.Omega.{arith}
-use Rattle.edges.specs.Nodes.{field_leads}
 use Rattle.edges.proofs.EdgeLaws.{leads-yes, leads-no}
 use Rattle.edges.proofs.leads.Goals as goal
 

@@ -1,4 +1,3 @@
-use Prim.Native.Nat.{◌-◌}
 use native.Mathlib.Omega.{arith}
 use Rattle.edges.specs.Nodes.{next_word}
 use Rattle.edges.proofs.NodeLaws.{gather-begin, gather-on, gather-end}

@@ -1,4 +1,3 @@
-use Prim.Native.Nat.{◌-◌}
 use native.Mathlib.Omega.{arith}
 use Rattle.evaluator.proofs.RowLaws.{all-begin, all_end, all-on}
 use Rattle.evaluator.proofs.all_of.Goals as goal

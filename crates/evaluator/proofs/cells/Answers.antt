@@ -1,4 +1,3 @@
-use Prim.Native.Nat.{◌-◌}
 use Rattle.wordset.proofs.Filling.{begins, goes, ends}
 use Rattle.evaluator.proofs.cells.Goals as goal
 

@@ -1,4 +1,3 @@
-use Prim.Native.Nat.{◌-◌}
 use native.Mathlib.Omega.{arith}
 use Rattle.frame.proofs.CopyLaws.{copy-first, copy-next, copy_done}
 use Rattle.frame.proofs.copy_places.Goals as goal

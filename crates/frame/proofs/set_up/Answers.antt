@@ -1,8 +1,6 @@
 -- `set_up` meets its contract: a refusal, or the frame of what was read. Assumes nothing.
-use denote.Struct.Field.{u64-field, u8-field, usize-field}
 use mathlib.Core.Path.{refl, sym}
 use lib.Seq.{length-take-le}
-use borrow.Author.Rules.{length_unmapped}
 use Rattle.frame.proofs.SetUpLaws.{count-within, formulas-within, frame-asked, setup-accepted, setup-refused, symbols-within, width-within}
 use Rattle.frame.proofs.set_up.Goals as goal
 

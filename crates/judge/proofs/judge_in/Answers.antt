@@ -1,5 +1,4 @@
 use mathlib.Core.Path.{sym, ◌∙◌}
-use Prim.Native.Nat.{◌-◌}
 use Rattle.naming.proofs.NextLaws.{start-number, start-count, in-hand, none_left, next-number, next-count, next-less}
 use Rattle.judge.proofs.JudgeLaws.{judge-start, judge-moved, judge-next, judge-open, judge-end, room-kept, kept-start, kept_more}
 use Rattle.judge.proofs.judge_in.Goals as goal

@@ -1,4 +1,3 @@
-use Prim.Native.Nat.{◌-◌}
 use Rattle.needs.proofs.FieldLaws.{fields-end, fields-on, fields-start}
 use Rattle.needs.proofs.ex_fields.Goals as goal
 

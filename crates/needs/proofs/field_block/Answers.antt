@@ -1,5 +1,4 @@
 use mathlib.Core.Path.{sym, ◌∙◌}
-use Prim.Native.Nat.{◌-◌}
 use borrow.Author.Tests.{not-true}
 use Rattle.needs.proofs.BlockSteps.{field-empty, members-end, members-on, members-start}
 use Rattle.needs.proofs.field_block.Goals as goal

@@ -1,4 +1,3 @@
-use Prim.Native.Nat.{◌-◌}
 use native.Mathlib.Omega.{arith}
 use Rattle.needs.proofs.BlockSteps.{blocks_end, blocks-on, blocks-room, blocks_start}
 use Rattle.needs.proofs.field_words.Goals as goal

@@ -1,4 +1,3 @@
-use Prim.Native.Nat.{◌-◌}
 use Rattle.needs.proofs.BlockSteps.{join-end, join-on, join-start}
 use Rattle.needs.proofs.join_block.Goals as goal
 

@@ -1,4 +1,3 @@
-use Prim.Native.Nat.{◌-◌}
 use native.Mathlib.Omega.{arith}
 use Rattle.needs.proofs.ListingLaws.{field-on, fields-done, going-room, going_start}
 use Rattle.needs.proofs.list_fields.Goals as goal

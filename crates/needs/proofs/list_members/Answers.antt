@@ -1,4 +1,3 @@
-use Prim.Native.Nat.{◌-◌}
 use native.Mathlib.Omega.{arith}
 use Rattle.needs.proofs.ListingLaws.{going-from, going-room, member-on, members-done}
 use Rattle.needs.proofs.list_members.Goals as goal

@@ -1,4 +1,3 @@
-use Prim.Native.Nat.{◌-◌}
 use native.Mathlib.Omega.{arith}
 use Rattle.prepare.specs.Places.{kind_at}
 use Rattle.prepare.proofs.PlaceLaws.{parted-first, parted-next, parted-done}

@@ -1,4 +1,3 @@
-use Prim.Native.Nat.{◌-◌}
 use Rattle.snapshot_text.proofs.ReadLaws.{runs-begin, runs_on, runs-end}
 use Rattle.snapshot_text.proofs.run_from.Goals as goal
 

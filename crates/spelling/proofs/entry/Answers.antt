@@ -1,4 +1,3 @@
-use Prim.Native.Nat.{◌-◌}
 use mathlib.Core.Path.{sym, ◌∙◌}
 use native.Mathlib.Omega.{arith}
 use Rattle.spelling.proofs.EntryLaws.{no-entry, entry-all, entry-out, entry_here, entry-later, entry-end}

@@ -1,4 +1,3 @@
-use Prim.Native.Nat.{◌-◌}
 use native.Mathlib.Omega.{arith}
 use Rattle.wordset.proofs.AnswersLaws.{and-answers, minus-answers}
 use Rattle.start.proofs.Halves.{halved-end, halved-on, halved-start, second_at}

@@ -1,4 +1,3 @@
-use Prim.Native.Nat.{◌-◌}
 use native.Mathlib.Omega.{arith}
 use Rattle.truth.proofs.BlockLaws.{word-not}
 use Rattle.truth.proofs.Folds.{meet-end, meet-on, meet-start}

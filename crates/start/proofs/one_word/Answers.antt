@@ -1,4 +1,3 @@
-use Prim.Native.Nat.{◌-◌}
 use native.Mathlib.Omega.{arith}
 use Rattle.start.proofs.StartWords.{counted-on, counted_start, one_none, one-of}
 use Rattle.start.proofs.one_word.Goals as goal

@@ -1,5 +1,4 @@
 use mathlib.Core.Path.{◌∙◌}
-use Prim.Native.Nat.{◌-◌}
 use native.Mathlib.Omega.{arith}
 use Rattle.start.proofs.NamedNumbers.{type-lt}
 use Rattle.start.proofs.Starting.{started-all, started-first, started-on}

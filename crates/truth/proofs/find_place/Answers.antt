@@ -1,5 +1,4 @@
 use mathlib.Core.Path.{sym, ◌∙◌}
-use Prim.Native.Nat.{◌-◌}
 use native.Mathlib.Omega.{arith}
 use Rattle.wordset.proofs.Searching.{yet-end, yet-found, yet-on, yet-start}
 use Rattle.truth.specs.Truths.{place_of}

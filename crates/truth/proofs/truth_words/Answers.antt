@@ -1,5 +1,4 @@
 use mathlib.Core.Path.{refl, ◌∙◌}
-use Prim.Native.Nat.{◌-◌}
 use native.Mathlib.Omega.{arith}
 use Rattle.truth.proofs.BlockLaws.{block-fits}
 use Rattle.truth.proofs.Redoing.{redone-next}

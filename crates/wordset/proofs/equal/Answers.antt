@@ -1,4 +1,3 @@
-use Prim.Native.Nat.{◌-◌}
 use native.Mathlib.Omega.{arith}
 use Rattle.wordset.specs.Words.{member}
 use Rattle.wordset.proofs.AnswersLaws.{word-answers}

@@ -5,7 +5,7 @@ use Rattle.wordset.specs.Below.{least}
 use native.Mathlib.Omega.{arith}
 use Rattle.wordset.proofs.AnswersLaws.{word-answers}
 use Rattle.wordset.proofs.Scanning.{none-start, none-on, least-found, least-end}
-use Prim.Native.Nat.{ℕ, ◌+◌, ◌*◌, ◌-◌, ◌<◌}
+use Prim.Native.Nat.{ℕ, ◌+◌, ◌*◌, ◌<◌}
 use Rattle.wordset.specs.Words.{member}
 use Rattle.wordset.proofs.first.Goals as goal
 

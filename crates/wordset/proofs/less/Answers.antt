@@ -1,4 +1,3 @@
-use Prim.Native.Nat.{◌-◌}
 use Rattle.wordset.proofs.AnswersLaws.{answers-word, word-answers, minus-answers}
 use Rattle.wordset.proofs.Filling.{begins, goes, ends}
 use Rattle.wordset.proofs.less.Goals as goal

@@ -2,7 +2,7 @@ use lib.ListN.{get_or}
 use native.Mathlib.Omega.{arith}
 use Rattle.wordset.proofs.AnswersLaws.{word-answers}
 use Rattle.wordset.proofs.Scanning.{count-start, count-on, count-end, ones-fit, count_fits}
-use Prim.Native.Nat.{◌-◌, ◌^◌, ◌<◌}
+use Prim.Native.Nat.{◌^◌, ◌<◌}
 use Rattle.wordset.proofs.size.Goals as goal
 
 small : (c : goal.After-shared_slice_known-1) → get_or c.args.ws.now c.loop-i.i 0 < 2 ^ 64

@@ -1,4 +1,3 @@
-use Prim.Native.Nat.{◌-◌}
 use Rattle.wordset.proofs.AnswersLaws.{and-answers, word-answers}
 use Rattle.wordset.proofs.Packing.{note-end, note-on, note-start}
 use Rattle.truth.proofs.BlockLaws.{block-word}

@@ -1,4 +1,3 @@
-use Prim.Native.Nat.{◌-◌}
 use Rattle.wordset.proofs.AnswersLaws.{and-answers, word-answers}
 use Rattle.wordset.proofs.Packing.{pack-any, pack-end, pack-on, pack-start}
 use Rattle.truth.proofs.BlockLaws.{block-word}

@@ -1,4 +1,3 @@
-use Prim.Native.Nat.{◌-◌}
 use Rattle.wordset.proofs.AnswersLaws.{answers-word, and-answers, minus-answers, word-answers}
 use Rattle.wordset.proofs.Filling.{begins, ends, goes}
 use Rattle.truth.proofs.BlockLaws.{block-word}

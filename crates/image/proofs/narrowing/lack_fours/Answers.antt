@@ -1,5 +1,3 @@
-use mathlib.Core.Bool.{true}
-use Prim.Native.Nat.{◌-◌}
 use native.Mathlib.Omega.{arith}
 use Rattle.wordset.proofs.Packing.{pack-start}
 use Rattle.image.proofs.Fours.{narrow-as, narrow-four, narrow-part}

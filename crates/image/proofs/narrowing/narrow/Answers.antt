@@ -1,5 +1,3 @@
-use mathlib.Core.Logic.{⊎_elim}
-use Prim.Native.Nat.{◌-◌}
 use native.Mathlib.Omega.{arith}
 use Rattle.image.proofs.Fours.{tail-as, tail-end, tail-on, tail-start, tail-stay}
 use Prim.Native.Nat.{◌^◌, ◌<◌}

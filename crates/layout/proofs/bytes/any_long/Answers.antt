@@ -1,6 +1,5 @@
 use native.Mathlib.Omega.{arith}
 use Rattle.layout.proofs.ScanLaws.{long-last, long-here, long-next, long-end, long-none}
-use Prim.Native.Nat.{◌-◌}
 use mathlib.Core.Path.{refl, sym, ◌∙◌}
 use Rattle.layout.proofs.bytes.any_long.Goals as goal
 

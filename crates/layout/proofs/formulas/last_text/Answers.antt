@@ -1,6 +1,5 @@
 use native.Mathlib.Omega.{arith}
 use Rattle.layout.proofs.FormulaTexts.{first, later, behind-end, behind-none, last_end, last_none, last-next}
-use Prim.Native.Nat.{◌-◌}
 use mathlib.Core.Path.{refl, sym, ◌∙◌}
 use Rattle.layout.proofs.formulas.last_text.Goals as goal
 

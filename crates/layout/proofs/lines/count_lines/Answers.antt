@@ -2,7 +2,6 @@ use native.Mathlib.Omega.{arith}
 use mathlib.Core.Path.{ap}
 use Rattle.layout.proofs.LineLaws.{count_next, count-last, lines_end}
 use lib.ListN.{length}
-use Prim.Native.Nat.{◌-◌}
 use Rattle.layout.proofs.lines.count_lines.Goals as goal
 
 pub loop-at-init : goal.loop-at-init

@@ -1,7 +1,6 @@
 use native.Mathlib.Omega.{arith}
 use Rattle.layout.proofs.LineLaws.{starts_none, starts-goal, starts-not, starts-next, starts-end}
 use borrow.Author.Tests.{not-true, not-false}
-use Prim.Native.Nat.{◌-◌}
 use mathlib.Core.Path.{refl, sym, ◌∙◌}
 use Rattle.layout.proofs.starts.starts_right.Goals as goal
 

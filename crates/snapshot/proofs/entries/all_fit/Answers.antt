@@ -1,10 +1,7 @@
-use Prim.Native.Nat.{◌-◌}
 use mathlib.Core.Path.{sym, ◌∙◌}
-use mathlib.Core.Bool.{true}
 use borrow.Author.Count.{below_more}
 use borrow.Author.Tests.{not-true, not-false}
 use native.Mathlib.Omega.{arith}
-use Rattle.snapshot.specs.Read.{line_fits}
 use Rattle.snapshot.proofs.EntryLaws.{fits_not, fits_all}
 use Rattle.snapshot.proofs.entries.all_fit.Goals as goal
 

@@ -1,9 +1,7 @@
-use Prim.Native.Nat.{◌-◌}
 use mathlib.Core.Path.{sym, ◌∙◌}
 use borrow.Author.Count.{below_more}
 use borrow.Author.Tests.{not-true, not-false}
 use native.Mathlib.Omega.{arith}
-use Rattle.snapshot.specs.Read.{held_count}
 use Rattle.snapshot.proofs.EntryLaws.{no_value, not-one-yes, not-one-no}
 use Rattle.snapshot.proofs.entries.some_not_one.Goals as goal
 

@@ -1,5 +1,4 @@
 use mathlib.Core.Path.{refl}
-use Prim.Native.Nat.{◌-◌}
 use native.Mathlib.Omega.{arith}
 use Rattle.tableau.proofs.Rounding.{round-end, round-on, round-start, round-within}
 use Rattle.tableau.proofs.eliminate.round.Goals as goal

@@ -1,5 +1,4 @@
 use mathlib.Core.Path.{refl}
-use Prim.Native.Nat.{◌-◌}
 use native.Mathlib.Omega.{arith}
 use Rattle.tableau.specs.Families.{has_nexts}
 use Rattle.tableau.proofs.NeedFits.{all_end, all-on, all_start}

@@ -1,4 +1,3 @@
-use Prim.Native.Nat.{◌-◌}
 use Rattle.truth.proofs.Redoing.{redo-end, redo-on, redo-start, still}
 use Rattle.truth.proofs.blocks.add_place.Goals as goal
 

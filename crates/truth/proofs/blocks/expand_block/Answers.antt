@@ -1,4 +1,3 @@
-use Prim.Native.Nat.{◌-◌}
 use Rattle.truth.proofs.BlockLaws.{block_in}
 use Rattle.truth.proofs.Redoing.{earlier, redo-end, redo-on, redo-start, still}
 use Rattle.truth.proofs.blocks.expand_block.Goals as goal

@@ -1,4 +1,3 @@
-use Prim.Native.Nat.{◌-◌}
 use Rattle.truth.proofs.Redoing.{redo-end, redo-on, redo-start}
 use Rattle.truth.proofs.blocks.fill_block.Goals as goal
 

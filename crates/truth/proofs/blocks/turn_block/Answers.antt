@@ -1,4 +1,3 @@
-use Prim.Native.Nat.{◌-◌}
 use Rattle.truth.proofs.BlockLaws.{word-not}
 use Rattle.truth.proofs.Redoing.{redo-end, redo-on, redo-start, still}
 use Rattle.truth.proofs.blocks.turn_block.Goals as goal
