@@ -2,7 +2,6 @@
 use mathlib.Core.Path.{◌≡◌, refl, sym, ap, ◌∙◌}
 use mathlib.Core.List.{List}
 use Prim.Native.Nat.{ℕ}
-use Rattle.ctl.specs.Verdict as Ctl
 use Rattle.judge.specs.Judged as Judged
 use Rattle.judge.specs.declared.Verdict.{Verdict}
 use Rattle.frame.specs.SetUp.{SetUp}

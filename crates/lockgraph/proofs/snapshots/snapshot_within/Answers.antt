@@ -1,11 +1,9 @@
 -- `snapshot_within` meets its contract. Assumes nothing.
 use mathlib.Core.Path.{sym}
 use native.Mathlib.Omega.{arith}
-use denote.Struct.Field.{u64-field, u8-field, usize-field}
 use lib.Seq.{length-take-le}
 use Rattle.frame.proofs.SetUpLaws.{count-within, symbols-within}
 use Rattle.outcomes.proofs.SnapshotLaws.{fill-asked, kinds-few, last-few, row-short, snapshot-done, snapshot-means, snapshot-refused, some-formula, text-refused, whole}
-use borrow.Author.Rules.{length_unmapped}
 use Rattle.lockgraph.proofs.snapshots.snapshot_within.Goals as goal
 
 pub returns-then-k-ne0 : goal.returns-then-k-ne0
