@@ -1,8 +1,8 @@
 // The calls of a corpus: which operation a line asks for, under which limits, and its outcome.
 use crate::book::book;
-use crate::clean::clean;
+use crate::cleaning::clean;
 use crate::list::list;
-use crate::snapshot::snapshot;
+use crate::snapshots::snapshot;
 use crate::table::table;
 use crate::verdict::{goal, program, verdict};
 use corpus_text::number::{ends, has_slash, number_at, pair_at};

@@ -5,11 +5,11 @@
 
 mod book;
 mod call;
-mod clean;
+mod cleaning;
 mod line;
 mod list;
 mod run;
-mod snapshot;
+mod snapshots;
 mod table;
 mod verdict;
 
