@@ -1,5 +1,5 @@
 -- The documents' number of each refusal, and the refusal of a number. Assumes nothing: these are definitions.
-use Rattle.std.specs.Prelude.{[], ◌∷◌, ℕ, suc, get_or, Result, Ok, Err}
+use Rattle.std.specs.Prelude.{[], ◌∷◌, ℕ, suc, get_or, Option, Some, None, Result, Ok, Err}
 use Rattle.refusal.specs.declared.Refusal.{Refusal}
 use Rattle.refusal.specs.declared.Refusal.TheVariants.{Length, Byte, Layout, Names, Kinds, Grammar, Symbol, Braces, Closure, Lean, Naming, Store, Snapshot, Entry, Twice, Row, Held, Clean, Limits}
 
@@ -33,3 +33,8 @@ refusal_by (suc k) = get_or (Length ∷ Byte ∷ Layout ∷ Names ∷ Kinds ∷ 
 abbrev pub refused_as : {A : Type 0} → Result A Refusal → ℕ
 refused_as (Ok a) = 0
 refused_as (Err e) = number_of e
+
+-- the number of a refusal, 0 for none
+abbrev pub number_if : Option Refusal → ℕ
+number_if None = 0
+number_if (Some e) = number_of e
