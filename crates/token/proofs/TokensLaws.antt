@@ -13,7 +13,7 @@ use Rattle.spelling.specs.Spelling.{lower, run, word}
 use Rattle.spelling.proofs.SpellingLaws.{Lower, is-lower-case, run-whole}
 use Rattle.token.specs.declared.Modal.{Modal}
 use Rattle.token.specs.declared.Tok.{Tok}
-use Rattle.token.specs.declared.Tok.TheVariants.{End, Zero, One, Letter, Capital, Operator, Infix, Not, Open, Close, OpenBrace, CloseBrace, Comma, Other}
+use Rattle.token.specs.declared.Tok.TheVariants.{End, Letter, Capital, Operator, CloseBrace, Other}
 use Rattle.std.specs.Prelude.{Option, Some, None}
 use Rattle.token.specs.declared.Token.{Token}
 use Rattle.token.specs.Token.{pick, spaces, skip, sign_of, upper, pair_of, pair_on, placed, run_front, plain_front, alone_by, alone_front, head_front, front_by, token_by, token_at, inner_at, on_close_brace, on_end, least, Taken}
@@ -35,24 +35,9 @@ pub record Proper (k : Tok) : Type 0 where
   pub least-one : least k ≡ 1
   pub goes_on : (a b : List Tok) → on_end k a b ≡ b
 
-proper : (k : Tok) → least k ≡ 1 → ((a b : List Tok) → on_end k a b ≡ b) → (k ≡ End) ⊎ Proper k
-proper k l f = inr (record { least-one = l; goes_on = f })
-
 end-or-proper : (k : Tok) → (k ≡ End) ⊎ Proper k
 end-or-proper End = inl refl
-end-or-proper Zero = proper Zero refl (λ a b. refl)
-end-or-proper One = proper One refl (λ a b. refl)
-end-or-proper (Letter k) = proper (Letter k) refl (λ a b. refl)
-end-or-proper (Capital k) = proper (Capital k) refl (λ a b. refl)
-end-or-proper (Operator m) = proper (Operator m) refl (λ a b. refl)
-end-or-proper (Infix l) = proper (Infix l) refl (λ a b. refl)
-end-or-proper Not = proper Not refl (λ a b. refl)
-end-or-proper Open = proper Open refl (λ a b. refl)
-end-or-proper Close = proper Close refl (λ a b. refl)
-end-or-proper OpenBrace = proper OpenBrace refl (λ a b. refl)
-end-or-proper CloseBrace = proper CloseBrace refl (λ a b. refl)
-end-or-proper Comma = proper Comma refl (λ a b. refl)
-end-or-proper Other = proper Other refl (λ a b. refl)
+end-or-proper _ = inr (record { least-one = refl; goes_on = λ a b. refl })
 
 pub proper_of : (k : Tok) → least k ≡ 1 → Proper k
 proper_of k l = go (end-or-proper k)
