@@ -10,11 +10,11 @@ unfolding inner_at
 returns-then-s-i c = past_end head_front c.args.s.now c.args.at _ c.skip_spaces-i.ensures c.if-s-i.true
 
 pub head_capital-requires : goal.head_capital-requires
-head_capital-requires c = (omega arith, (upper_is _ (sym c.is_upper.ensures ∙ c.if-is_upper.true)).1)
+head_capital-requires c = (omega arith, (upper_is _ (sym c.is_ascii_uppercase.ensures.value ∙ c.if-is_ascii_uppercase.true)).1)
 
-pub returns-then-is_upper : goal.returns-then-is_upper
+pub returns-then-is_ascii_uppercase : goal.returns-then-is_ascii_uppercase
 unfolding inner_at
-returns-then-is_upper c = from-capital head_front c.args.s.now c.args.at _ c.skip_spaces-i.ensures c.if-s-i.false (sym c.is_upper.ensures ∙ c.if-is_upper.true) c.head_capital.ensures
+returns-then-is_ascii_uppercase c = from-capital head_front c.args.s.now c.args.at _ c.skip_spaces-i.ensures c.if-s-i.false (sym c.is_ascii_uppercase.ensures.value ∙ c.if-is_ascii_uppercase.true) c.head_capital.ensures
 
 pub returns : goal.returns
-returns c = inner-plain c.args.s.now c.args.at _ c.skip_spaces-i.ensures c.if-s-i.false (sym c.is_upper.ensures ∙ c.if-is_upper.false) c.token_at.ensures
+returns c = inner-plain c.args.s.now c.args.at _ c.skip_spaces-i.ensures c.if-s-i.false (sym c.is_ascii_uppercase.ensures.value ∙ c.if-is_ascii_uppercase.false) c.token_at.ensures
