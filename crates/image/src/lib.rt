@@ -33,7 +33,7 @@ fn join_if(x: u64, y: u64, on: bool) -> u64
 fn partners(r: u64) -> u64
     ensures { (c : ℕ) → c < 64 → bit result c ≡ bit r ((c + 32) % 64) }
 {
-    (r >> 32) | (r << 32)
+    r.rotate_right(32)
 }
 
 // Of the entries a, those that have type 64k + b.
