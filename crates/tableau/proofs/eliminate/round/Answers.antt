@@ -8,7 +8,7 @@ loop-x-init c =
     round-start c.args.dst.now c.requires.w_in_bounds.1 c.copy.ensures
 
 pub eliminate_need-requires : goal.eliminate_need-requires
-eliminate_need-requires c = record { among = ((_, c.loop-x-test.true, refl), c.requires.made); w_in_bounds = (c.requires.w_in_bounds.0, (let l = c.loop-x.invariant.long in let h = c.requires.w_in_bounds.1 in let k = c.copy.auto.dst in omega arith), (let l = c.loop-x.invariant.long-copy in let h = c.requires.w_in_bounds.2 in omega arith), (let l = c.loop-x.invariant.long-todo in let h = c.requires.w_in_bounds.3 in omega arith), (let l = c.loop-x.invariant.long-v in let h = c.requires.w_in_bounds.4 in omega arith), (let l = c.loop-x.invariant.long_rest in let h = c.requires.w_in_bounds.5 in omega arith)); within = round-within c.loop-x.invariant (let k = c.copy.auto.dst in let h = c.requires.w_in_bounds.1 in omega arith) c.requires.made.2 }
+eliminate_need-requires c = record { among = ((_, c.loop-x-test.true, refl), c.requires.made); w_in_bounds = (c.requires.w_in_bounds.0, (let l = c.loop-x.invariant.long in let h = c.requires.w_in_bounds.1 in let k = c.copy.auto.dst in omega arith), (let l = c.loop-x.invariant.long_copy in let h = c.requires.w_in_bounds.2 in omega arith), (let l = c.loop-x.invariant.long_todo in let h = c.requires.w_in_bounds.3 in omega arith), (let l = c.loop-x.invariant.long_v in let h = c.requires.w_in_bounds.4 in omega arith), (let l = c.loop-x.invariant.long_rest in let h = c.requires.w_in_bounds.5 in omega arith)); within = round-within c.loop-x.invariant (let k = c.copy.auto.dst in let h = c.requires.w_in_bounds.1 in omega arith) c.requires.made.2 }
 
 pub loop-x-preserved : goal.loop-x-preserved
 loop-x-preserved c =

@@ -1,4 +1,4 @@
--- `round` meets its contract: after j turns dst holds those of src that keep their place as far as the first j needs go. Assumes nothing.
+-- `round` meets its contract: after some turns dst holds those of src that keep their place as far as the needs of those turns go. Assumes nothing.
 use Rattle.tableau.proofs.Rounding.{Rounded}
 use Rattle.tableau.proofs.eliminate.round.Given as goal
 

@@ -1,4 +1,4 @@
--- `follow_all` meets its contract: after j turns dst has those that pass for the first j needs. Assumes nothing.
+-- `follow_all` meets its contract: after some turns dst has those that pass for the needs of those turns. Assumes nothing.
 use lib.ListN.{length, get_or}
 use Rattle.ctl.specs.Lists.{imp}
 use Rattle.wordset.specs.Words.{member}
