@@ -8,12 +8,7 @@ pub fn put(out: &mut [u8], n: usize, text: &[u8]) -> usize
     requires { n + length text.now ≤ length out.old }
     ensures { Put n text.now out.old out.new result }
 {
-    let mut i = 0;
-    let mut at = n;
-    while i < text.len() {
-        out[at] = text[i];
-        i += 1;
-        at += 1;
-    }
-    at
+    let end = n + text.len();
+    out[n..end].copy_from_slice(text);
+    end
 }

@@ -8,6 +8,7 @@ use Rattle.ctl.specs.Formula.{Form, ex, ax}
 use Rattle.ctl.specs.Closure.{or_spine, and_spine, ex_spine, ax_spine}
 use Rattle.members.specs.Grown.{Ready, Answer}
 use Rattle.members.specs.declared.Added.{Added}
+use Rattle.std.proofs.Common.{Option}
 use Rattle.members.proofs.StepLaws.{answer-is}
 use Rattle.members.specs.Members.{form_by, Canon, c-tru, c-fls, c-and, c-or, c-ex, c-ax, word_of}
 use Rattle.members.proofs.ModeListLaws.{modes-from}
@@ -85,7 +86,7 @@ module _ {tab : List ℕ} {n : ℕ} (r : Ready tab n) where
       small = subst (λ x. x < 16) (sym e) (elim b as (λ c. unit_tag c < 16) [ true ↦ omega arith | false ↦ omega arith ])
 
 -- the member that a word of such a tag stands for
-module _ {tab : List ℕ} {n : ℕ} {tab' : List ℕ} {a : Added} (b : Bool) (t : ℕ) where
+module _ {tab : List ℕ} {n : ℕ} {tab' : List ℕ} {a : Option Added} (b : Bool) (t : ℕ) where
   pub next-made : (A : ℕ) (p q : Form) → t ≡ next_tag b → Answer tab n tab' (form_by t A p q ∷ []) (form_by t A p q) a → Answer tab n tab' (next_form b A p ∷ []) (next_form b A p) a
   next-made A p q e w = answer-is (ap (λ t. form_by t A p q) e ∙ form-next b A p q) w
 

@@ -10,8 +10,9 @@ use lib.ListN.{length, get_or}
 use borrow.Author.Tests.{eq-eqb, ne_eqb, lt-leb, le-leb}
 use Rattle.wordset.specs.Below.{one, any_below, count_below}
 use Rattle.wordset.proofs.BelowLaws.{all-intro, all-false, any-intro, any_none}
-use Rattle.snapshot.specs.declared.Answer.{Answer}
-use Rattle.snapshot.specs.declared.Answer.TheVariants.{Nodes, Refused}
+use Rattle.std.specs.Prelude.{Result, Ok, Err}
+use Rattle.refusal.specs.declared.Refusal.{Refusal}
+use Rattle.refusal.specs.declared.Refusal.TheVariants as Refusing
 use Rattle.snapshot.specs.Read.{limit, line_fits, fits, on_count, twice, is_value, held_count, not_one, judged, Few}
 
 -- node i holds none of the values, or several
@@ -73,24 +74,24 @@ module _ (kinds : List ℕ) (n : ℕ) (out : List ℕ) where
     not-one-no i h f = sym (value-nodes ∙ any_none (held_not_one kinds out) n (λ j l. ap not (eq-eqb (held_count kinds out j) 1 (f j (omega arith)))))
 
   -- the answers
-  pub judged-13 : n ≡ 0 → Refused 13 ≡ judged kinds n out
+  pub judged-13 : n ≡ 0 → Err Refusing.Snapshot ≡ judged kinds n out
   unfolding judged
   judged-13 e = simp (eq-eqb n 0 e)
 
   module _ (h : n ≡ 0 → ⊥) where
-    pub judged-14 : fits kinds n out ≡ false → Refused 14 ≡ judged kinds n out
+    pub judged-14 : fits kinds n out ≡ false → Err Refusing.Entry ≡ judged kinds n out
     unfolding judged
     judged-14 e = simp (ne_eqb n 0 h, e)
 
-    pub judged-15 : fits kinds n out ≡ true → twice kinds n out ≡ true → Refused 15 ≡ judged kinds n out
+    pub judged-15 : fits kinds n out ≡ true → twice kinds n out ≡ true → Err Refusing.Twice ≡ judged kinds n out
     unfolding judged
     judged-15 e f = simp (ne_eqb n 0 h, e, f)
 
-    pub judged-17 : fits kinds n out ≡ true → twice kinds n out ≡ false → not_one kinds n out ≡ true → Refused 17 ≡ judged kinds n out
+    pub judged-17 : fits kinds n out ≡ true → twice kinds n out ≡ false → not_one kinds n out ≡ true → Err Refusing.Held ≡ judged kinds n out
     unfolding judged
     judged-17 e f g = simp (ne_eqb n 0 h, e, f, g)
 
-    pub judged-nodes : fits kinds n out ≡ true → twice kinds n out ≡ false → not_one kinds n out ≡ false → Nodes n ≡ judged kinds n out
+    pub judged-nodes : fits kinds n out ≡ true → twice kinds n out ≡ false → not_one kinds n out ≡ false → Ok n ≡ judged kinds n out
     unfolding judged
     judged-nodes e f g = simp (ne_eqb n 0 h, e, f, g)
 
@@ -113,11 +114,11 @@ kind-no kind a t h = simp (ne_eqb kind a h)
 pub kind-yes : (kind a : ℕ) (t u : Bool) → kind ≡ a → t ≡ u → t ≡ (eqb kind a && u)
 kind-yes kind a t u h e = simp (e, eq-eqb kind a h)
 
-pub judged-few : (kinds : List ℕ) (n : ℕ) (out : List ℕ) (a : Answer) → n ≤ 16 → a ≡ judged kinds n out → Few a
+pub judged-few : (kinds : List ℕ) (n : ℕ) (out : List ℕ) (a : Result ℕ Refusal) → n ≤ 16 → a ≡ judged kinds n out → Few a
 unfolding judged
 judged-few kinds n out a h e = subst Few (sym e) (go (eqb n 0) (fits kinds n out) (twice kinds n out) (not_one kinds n out))
   where
-    go : (a b c d : Bool) → Few (cond a (Refused 13) (cond b (cond c (Refused 15) (cond d (Refused 17) (Nodes n))) (Refused 14)))
+    go : (a b c d : Bool) → Few (cond a (Err Refusing.Snapshot) (cond b (cond c (Err Refusing.Twice) (cond d (Err Refusing.Held) (Ok n))) (Err Refusing.Entry)))
     go true b c d = tt
     go false true true d = tt
     go false true false true = tt

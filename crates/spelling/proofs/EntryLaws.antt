@@ -1,46 +1,41 @@
 -- Entries of spellings' numbers in a list. Assumes nothing.
 use mathlib.Core.Path.{◌≡◌, refl, sym, ap, ◌∙◌}
+use mathlib.Core.Bool.{Bool, true, false, cond}
 use mathlib.Core.List.{List, [], ◌∷◌}
-use Prim.Native.Nat.{ℕ, suc, ◌+◌, ◌≤◌, ◌<◌}
+use Prim.Native.Nat.{ℕ, suc, ◌+◌, ◌<◌}
 use native.Mathlib.Omega.{arith}
 use native.Mathlib.Numerals.{add-one}
-use lib.ListN.{length, get_or, take, drop, drop_of_length-le, length-take}
-use lib.Seq.{drop-cons, get_or-take, take_all}
+use lib.ListN.{length, get_or, take}
+use lib.Dec.{eqb}
+use lib.Seq.{take_all}
 use borrow.Author.Tests.{eq-eqb, ne_eqb}
+use Rattle.std.specs.Prelude.{Option, Some}
+use Rattle.std.specs.List.{position, position_from}
+use Rattle.std.specs.Option.{option_map_or}
+use Rattle.std.proofs.lemmas.Iterator.Adapters.{position_from-zero}
 use Rattle.spelling.specs.Spelling.{entry_from, entry_in}
 
 pub no-entry : (ws : List ℕ) (x : ℕ) → x ≡ 0 → entry_in ws x ≡ 0
 unfolding entry_in
 no-entry ws x e = rw (eq-eqb x 0 e) refl
 
--- the entry among those from i on, counted from i
-abbrev pub entry_on : List ℕ → ℕ → ℕ → ℕ
-entry_on ws x i = entry_from i x (drop i (take 16 ws))
+-- an entry is 1 more than the place of the first such number, counted from i
+entry-from : (i x : ℕ) (ws : List ℕ) → entry_from i x ws ≡ option_map_or suc (position_from (λ y. eqb y x) i ws) 0
+unfolding entry_from
+entry-from i x [] = refl
+entry-from i x (y ∷ ws) = go (eqb y x) (rw add-one (entry-from (suc i) x ws))
+  where
+    go : (t : Bool) → entry_from (suc i) x ws ≡ option_map_or suc (position_from (λ y. eqb y x) (i + 1) ws) 0
+        → cond t (suc i) (entry_from (suc i) x ws) ≡ option_map_or suc (cond t (Some i) (position_from (λ y. eqb y x) (i + 1) ws)) 0
+    go true e = refl
+    go false e = e
 
-pub entry-all : (ws : List ℕ) (x : ℕ) → (x ≡ 0 → ⊥) → entry_on ws x 0 ≡ entry_in ws x
+entry-all : (ws : List ℕ) (x : ℕ) → (x ≡ 0 → ⊥) → entry_from 0 x (take 16 ws) ≡ entry_in ws x
 unfolding entry_in
 entry-all ws x n = rw (ne_eqb x 0 n) refl
 
-module _ (ws : List ℕ) (x i : ℕ) where
-  pub entry-out : length ws ≤ i → entry_on ws x i ≡ 0
-  unfolding entry_from
-  entry-out h = rw (drop_of_length-le (take 16 ws) {i = i} (omega (arith, length-take 16 ws))) refl
-
-  pub entry-end : 16 ≤ i → entry_on ws x i ≡ 0
-  unfolding entry_from
-  entry-end h = rw (drop_of_length-le (take 16 ws) {i = i} (omega (arith, length-take 16 ws))) refl
-
-  module _ (h : i < length ws) (k : i < 16) where
-    inside : i < length (take 16 ws)
-    inside = omega (arith, length-take 16 ws)
-
-    pub entry_here : get_or ws i 0 ≡ x → entry_on ws x i ≡ i + 1
-    unfolding entry_from
-    entry_here e = rw (drop-cons (take 16 ws) i 0 inside, get_or-take 16 ws i 0 k, eq-eqb (get_or ws i 0) x e, add-one i) refl
-
-    pub entry-later : (get_or ws i 0 ≡ x → ⊥) → entry_on ws x (i + 1) ≡ entry_on ws x i
-    unfolding entry_from
-    entry-later n = rw (drop-cons (take 16 ws) i 0 inside, get_or-take 16 ws i 0 k, ne_eqb (get_or ws i 0) x n, add-one i) refl
+pub entry-place : (ws : List ℕ) (x : ℕ) (r : Option ℕ) → (x ≡ 0 → ⊥) → r ≡ position (λ y. eqb y x) (take 16 ws) → entry_in ws x ≡ option_map_or suc r 0
+entry-place ws x r n e = sym (entry-all ws x n) ∙ entry-from 0 x (take 16 ws) ∙ ap (λ o. option_map_or suc o 0) (sym (e ∙ position_from-zero (λ y. eqb y x) (take 16 ws)))
 
 -- an entry that is found, and none
 pub entry_first : (i x : ℕ) (ws : List ℕ) (j : ℕ) → j < length ws → get_or ws j 0 ≡ x → ((k : ℕ) → k < j → get_or ws k 0 ≡ x → ⊥) → entry_from i x ws ≡ suc (i + j)

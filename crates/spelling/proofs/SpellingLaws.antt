@@ -115,29 +115,21 @@ word_fits : (f b r n i : ℕ) → b < 256 → i < n → n ≤ i + f → ((g : �
 word_fits ℕ.zero b r n i h k l w = absurd (omega arith)
 word_fits (suc f) b r n i h k l w = let q = w f (omega arith) in omega (arith, pow-suc 256 f)
 
--- the letters from i on are packed, those from a on are to be
-pub record Packed (w : List ℕ) (a i x : ℕ) : Type 0 where
-  pub from : a ≤ i
-  pub inside : i ≤ length w
+-- the letters from i on, packed
+pub record Packed (w : List ℕ) (i x : ℕ) : Type 0 where
   pub is : x ≡ word (drop i w)
   pub small : (f : ℕ) → length w ≤ i + f → x < 256 ^ f
 
-pub packed_none : (w : List ℕ) (a : ℕ) → a ≤ length w → Packed w a (length w) 0
-packed_none w a h = record { from = h; inside = omega arith; is = sym (word_end w (length w) (omega arith)); small = λ f k. pow-some f }
+pub packed_none : (w : List ℕ) → Packed w (length w) 0
+packed_none w = record { is = sym (word_end w (length w) (omega arith)); small = λ f k. pow-some f }
 
-pub packed-next : {w : List ℕ} {a i x b : ℕ} → Packed w a i x → a < i → b ≡ get_or w (i - 1) 0 → b < 256 → Packed w a (i - 1) (b + 256 * x)
-packed-next {w} {a} {i} {x} {b} p h e l =
-    let n = p.inside in
+pub packed-next : {w : List ℕ} {i x b : ℕ} → Packed w i x → 0 < i → i ≤ length w → b ≡ get_or w (i - 1) 0 → b < 256 → Packed w (i - 1) (b + 256 * x)
+packed-next {w} {i} {x} {b} p m h e l =
     let j : i - 1 + 1 ≡ i = omega arith in
     record {
-      from = omega arith;
-      inside = omega arith;
       is = ap₂ (λ c y. c + 256 * y) e (p.is ∙ ap (λ k. word (drop k w)) (sym j)) ∙ sym (word_more w (i - 1) (omega arith));
-      small = λ f k. word_fits f b x (length w) (i - 1) l (omega arith) k (λ g m. p.small g (omega arith));
+      small = λ f k. word_fits f b x (length w) (i - 1) l (omega arith) k (λ g n. p.small g (omega arith));
     }
-
-pub packed_all : {w : List ℕ} {a i x : ℕ} → Packed w a i x → i ≤ a → (x ≡ word (drop a w)) × ((f : ℕ) → length w ≤ a + f → x < 256 ^ f)
-packed_all {w} {a} {i} {x} p h = let e : i ≡ a = omega (arith, p.from) in (p.is ∙ ap (λ k. word (drop k w)) e, λ f k. p.small f (omega arith))
 
 -- ---- spellings
 -- lower-case letters, and nothing else

@@ -7,10 +7,7 @@ ghost use Rattle.spelling.specs.Spelling.{lower, run, spelled, word, letters_fro
 pub fn is_lower(b: u8) -> bool
     ensures { result ≡ lower b }
 {
-    if b < 97 {
-        return false;
-    }
-    b <= 122
+    b'a' <= b && b <= b'z'
 }
 
 // The position of the first byte from `at` on that is no lower-case letter, or the end.
@@ -18,14 +15,12 @@ pub fn run_end(s: &[u8], at: usize) -> usize
     requires { at ≤ length s.now }
     ensures { (result ≡ at + run (drop at s.now)) × ((at ≤ result) × (result ≤ length s.now)) }
 {
-    let mut i = at;
-    while i < s.len() {
+    for i in at..s.len() {
         if !is_lower(s[i]) {
             return i;
         }
-        i += 1;
     }
-    i
+    s.len()
 }
 
 // A text is 1 to 8 lower-case letters.
@@ -46,19 +41,11 @@ pub fn word_from(w: &[u8], a: usize) -> u64
     requires { (a ≤ length w.now) × (length w.now ≤ a + 8) }
     ensures { (result ≡ word (drop a w.now)) × ((f : ℕ) → length w.now ≤ a + f → result < 256 ^ f) }
 {
-    let mut i = w.len();
-    let mut x: u64 = 0;
-    while a < i {
-        i -= 1;
-        x = wide(w[i]) + 256 * x;
+    let mut x = 0;
+    for i in (a..w.len()).rev() {
+        x = u64::from(w[i]) + 256 * x;
     }
     x
-}
-
-fn wide(b: u8) -> u64
-    ensures { (result ≡ b) × (result < 256) }
-{
-    b as u64
 }
 
 // How many letters a word has.
@@ -88,15 +75,8 @@ pub fn entry(decl: &[u64], x: u64) -> u8
     if x == 0 {
         return 0;
     }
-    let mut i: u8 = 0;
-    while i < 16 {
-        if decl.len() <= i as usize {
-            return 0;
-        }
-        if decl[i as usize] == x {
-            return i + 1;
-        }
-        i += 1;
+    match decl.iter().take(16).position(|&d| d == x) {
+        Some(i) => i as u8 + 1,
+        None => 0,
     }
-    0
 }

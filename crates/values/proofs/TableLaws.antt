@@ -19,7 +19,7 @@ use Rattle.ctl.proofs.LeanOrder.{with_in, with_value, with_out, with-unique}
 use Rattle.members.specs.Members.{forms}
 use Rattle.members.specs.Grown.{Ready, Tabled, Grows, Answer}
 use Rattle.members.specs.declared.Added.{Added}
-use Rattle.members.specs.declared.Added.TheVariants.{At, Full}
+use Rattle.std.proofs.Common.{Option, Some, None}
 use Rattle.members.proofs.MemberLaws.{forms-length}
 use Rattle.members.proofs.StepLaws.{◌⊆◌, grows_none, grows-keep, grows_then, drop-later, was-added, was-full}
 use Rattle.values.specs.Values.{is_value, value_forms, Extended}
@@ -37,12 +37,12 @@ module _ {tab : List ℕ} {n : ℕ} (r : Ready tab n) where
       let u = unique-length (forms (take m tab')) (forms (take n tab) ++ l) g.members.unique g.only in
       omega (arith, forms-many tab' m h, length-append (forms (take n tab)) l, forms-many tab n r.room)
 
-  module _ {k : ℕ} {tab' : List ℕ} {a : Added} (w : Answer tab n tab' (lit k ∷ []) (lit k) a) where
-    one-added : {i m : ℕ} → a ≡ At i m → Extended (lit k ∷ []) tab n tab' m
-    one-added {m = m} e = let d = was-added w e in record { up = d.up; few = grown-few tab' m d.room d.grows; room = d.room; grows = d.grows; behind = d.behind }
+  module _ {k : ℕ} {tab' : List ℕ} {a : Option Added} (w : Answer tab n tab' (lit k ∷ []) (lit k) a) where
+    one-added : {x : Added} → a ≡ Some x → Extended (lit k ∷ []) tab n tab' x.count
+    one-added {x} e = let d = was-added w e in record { up = d.up; few = grown-few tab' x.count d.room d.grows; room = d.room; grows = d.grows; behind = d.behind }
 
     -- there is room for one more
-    one-room : n < length tab → a ≡ Full → ⊥
+    one-room : n < length tab → a ≡ None → ⊥
     one-room h e =
         let o = was-full w e in
         let u = unique-length o.list (forms (take n tab) ++ (lit k ∷ [])) o.unique o.inside in
@@ -57,10 +57,10 @@ module _ {tab : List ℕ} {n : ℕ} (r : Ready tab n) where
   pub kind-other : (kind k : ℕ) → (kind ≡ 4 → ⊥) → Extended (put (eqb kind 4) (lit k) []) tab n tab n
   kind-other kind k f = by_kind kind k (ne_eqb kind 4 f) extended_none
 
-  pub kind-value : (kind k : ℕ) {i m : ℕ} {tab' : List ℕ} {a : Added} → kind ≡ 4 → Answer tab n tab' (lit k ∷ []) (lit k) a → a ≡ At i m → Extended (put (eqb kind 4) (lit k) []) tab n tab' m
+  pub kind-value : (kind k : ℕ) {x : Added} {tab' : List ℕ} {a : Option Added} → kind ≡ 4 → Answer tab n tab' (lit k ∷ []) (lit k) a → a ≡ Some x → Extended (put (eqb kind 4) (lit k) []) tab n tab' x.count
   kind-value kind k f w e = by_kind kind k (eq-eqb kind 4 f) (one-added w e)
 
-  pub kind-full : {k m : ℕ} {l : List Form} {tab' : List ℕ} {a : Added} → n < length tab → Answer tab n tab' (lit k ∷ []) (lit k) a → a ≡ Full → Extended l tab n tab' m
+  pub kind-full : {k m : ℕ} {l : List Form} {tab' : List ℕ} {a : Option Added} → n < length tab → Answer tab n tab' (lit k ∷ []) (lit k) a → a ≡ None → Extended l tab n tab' m
   kind-full h w e = absurd (one-room w h e)
 
   pub ready-extended : {l : List Form} {tab' : List ℕ} {m : ℕ} → Extended l tab n tab' m → length tab' ≡ length tab → Ready tab' m

@@ -5,7 +5,8 @@ use mathlib.Core.List.{List}
 use Prim.Native.Nat.{ℕ, ◌+◌, ◌-◌, ◌*◌, ◌^◌, ◌<◌}
 use lib.Bits.{bit_and, bit_or, and_lt, or_lt}
 use lib.Dec.{eqb}
-use lib.ListN.{get_or}
+use lib.ListN.{get_or, take}
+use lib.Seq.{get_or-take}
 use lib.Pow.{ones_sub-lt}
 use borrow.Author.Tests.{eq-eqb, eqb-true}
 use Rattle.wordset.specs.Answers.{Answers}
@@ -25,6 +26,10 @@ answers-word {P} {i} {x} a = word_of-is 64 (λ b. P (i * 64 + b)) x a.small (λ 
 
 pub word-answers : (ws : List ℕ) (i : ℕ) → get_or ws i 0 < 2 ^ 64 → Answers (member ws) i (get_or ws i 0)
 word-answers ws i h = record { small = h; each = member-at ws i }
+
+-- the same among the first w words
+pub front-answers : (ws : List ℕ) (w i : ℕ) → i < w → get_or ws i 0 < 2 ^ 64 → Answers (member ws) i (get_or (take w ws) i 0)
+front-answers ws w i l h = rw (get_or-take w ws i 0 l) (word-answers ws i h)
 
 module _ {P Q : ℕ → Bool} {i x y : ℕ} (p : Answers P i x) (q : Answers Q i y) where
   -- a word whose digits are f of those of x and y

@@ -7,14 +7,22 @@ use Prim.Native.Nat.{ℕ, ◌+◌, ◌-◌, ◌*◌, ◌^◌, ◌≤◌, ◌<◌
 use native.Mathlib.Numerals.{add-one}
 use native.Mathlib.Omega.{arith}
 use lib.Dec.{eqb}
+use lib.ListN.{length, get_or, take}
+use lib.Seq.{ext_get_or, get_or-take, length-take-le}
+use Rattle.std.specs.Cmp.Lexicographic.{pointwise}
+use Rattle.std.proofs.lemmas.Slice.Eq.{slice_eq-Decides}
+use Rattle.std.proofs.lemmas.Bool.Decides.{Decides-eqb}
+use mathlib.Core.List.{List}
+use Rattle.wordset.specs.Words.{member}
 use lib.Count.{ones, ones-le, count_trailing_zeros}
-use borrow.Author.Tests.{eq-eqb, ne_eqb}
+use borrow.Author.Tests.{eq-eqb, ne_eqb, eqb-true}
 use Rattle.wordset.specs.Below.{all_below, any_below, count_below, least}
 use Rattle.wordset.specs.Word.{bit}
-use Rattle.wordset.proofs.BelowLaws.{all-false, all_blocks, count-le, least-none, any-add, any-ext, any_false, any-more, count_add, count-ext, least-is, least_lt, least-holds, least-below, lt-or-le}
+use Rattle.wordset.proofs.BelowLaws.{all-intro, all-elim, all-ext, all_blocks, count-le, least-none, any-add, any-ext, any_false, any-more, count_add, count-ext, least-is, least_lt, least-holds, least-below, lt-or-le}
 use Rattle.wordset.proofs.BitLaws.{any-bit, ones-count, trailing-least}
 use Rattle.wordset.specs.Answers.{Answers}
-use Rattle.wordset.proofs.AnswersLaws.{equal-answers}
+use Rattle.wordset.proofs.AnswersLaws.{equal-answers, word-answers}
+use Rattle.wordset.proofs.CompareLaws.{both_ways}
 
 -- ---- a loop's invariant: all below i passed the test; none of the first i words has a number that does; n numbers of them do
 
@@ -114,18 +122,25 @@ module _ {P : ℕ → Bool} {i x : ℕ} (a : Answers P i x) where
       ap P (sym r) ∙ a.each (k - i * 64) (omega arith) ∙ least-below 64 (bit x) (k - i * 64) (omega arith))) (lt-or-le k (i * 64)) in
       (omega arith, sym (least-is (w * 64) P (i * 64 + t) (omega arith) holds past))
 
--- ---- whether two tests agree
+-- ---- whether two sets are the same
 
--- they do on the numbers of word i
-abbrev pub agree : (ℕ → Bool) → (ℕ → Bool) → ℕ → Bool
-agree P Q i = all_below 64 (λ b. beq (P (i * 64 + b)) (Q (i * 64 + b)))
+module _ (a b : List ℕ) (w : ℕ) where
+  abbrev alike : ℕ → Bool
+  alike i = eqb (get_or a i 0) (get_or b i 0)
 
-pub agree-end : (P Q : ℕ → Bool) {w i : ℕ} → AllSoFar (agree P Q) w i → w ≤ i → true ≡ all_below (w * 64) (λ j. beq (P j) (Q j))
-agree-end P Q {w} s h = all_end s h ∙ sym (all_blocks (λ j. beq (P j) (Q j)) w 64)
+  -- the first w words are the same exactly if each of them is
+  words-same : w ≤ length a → w ≤ length b → pointwise eqb (take w a) (take w b) ≡ all_below w alike
+  words-same h k =
+      let d = slice_eq-Decides Decides-eqb (take w a) (take w b) (pointwise eqb (take w a) (take w b)) refl in
+      both_ways (pointwise eqb (take w a) (take w b)) (all_below w alike)
+      (λ e. all-intro alike w (λ i l. eq-eqb (get_or a i 0) (get_or b i 0) (sym (get_or-take w a i 0 l) ∙ ap (λ x. get_or x i 0) (d.0 e) ∙ get_or-take w b i 0 l)))
+      (λ e. d.1 (ext_get_or 0 (take w a) (take w b) (length-take-le w a h ∙ sym (length-take-le w b k))
+      (λ i l. let m : i < w = omega (arith, length-take-le w a h) in get_or-take w a i 0 m ∙ eqb-true (get_or a i 0) (get_or b i 0) (all-elim alike w e i m) ∙ sym (get_or-take w b i 0 m))))
 
-module _ {P Q : ℕ → Bool} {w i x y : ℕ} (p : Answers P i x) (q : Answers Q i y) (h : i < w) where
-  pub agree_on : AllSoFar (agree P Q) w i → x ≡ y → AllSoFar (agree P Q) w (i + 1)
-  agree_on s e = all-on s h (equal-answers p q ∙ eq-eqb x y e)
-
-  pub agree-not : (x ≡ y → ⊥) → false ≡ all_below (w * 64) (λ j. beq (P j) (Q j))
-  agree-not n = sym (all_blocks (λ j. beq (P j) (Q j)) w 64 ∙ all-false (agree P Q) w i h (equal-answers p q ∙ ne_eqb x y n))
+  -- and so are the sets
+  pub sets-same : w ≤ length a → w ≤ length b → ((i : ℕ) → get_or a i 0 < 2 ^ 64) → ((i : ℕ) → get_or b i 0 < 2 ^ 64)
+      → pointwise eqb (take w a) (take w b) ≡ all_below (w * 64) (λ j. beq (member a j) (member b j))
+  sets-same h k f g =
+      words-same h k
+      ∙ all-ext alike (λ i. all_below 64 (λ d. beq (member a (i * 64 + d)) (member b (i * 64 + d)))) w (λ i l. sym (equal-answers (word-answers a i (f i)) (word-answers b i (g i))))
+      ∙ sym (all_blocks (λ j. beq (member a j) (member b j)) w 64)

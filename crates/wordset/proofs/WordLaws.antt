@@ -2,17 +2,17 @@
 -- Assumes nothing.
 use mathlib.Core.Path.{◌≡◌, refl, sym, ap, ap₂, ◌∙◌}
 use mathlib.Core.Bool.{Bool}
-use mathlib.Core.List.{List}
+use mathlib.Core.List.{List, ◌++◌}
 use mathlib.Core.Logic.{⊎_elim}
-use Prim.Native.Nat.{ℕ, zero, suc, ◌+◌, ◌*◌, ◌/◌, ◌%◌, ◌^◌, ◌≤◌, ◌<◌}
+use Prim.Native.Nat.{ℕ, zero, suc, ◌+◌, ◌-◌, ◌*◌, ◌/◌, ◌%◌, ◌^◌, ◌≤◌, ◌<◌}
 use native.Mathlib.Nat.{not-suc-le-zero}
 use native.Mathlib.Numerals.{add-one}
 use native.Mathlib.Omega.{arith}
-use lib.ListN.{length, get_or, set, drop, length-set}
-use lib.Seq.{get_or-set_same, get_or-set_other, drop-set-lt}
+use lib.ListN.{length, get_or, set, take, drop, length-set, length-append, length-drop, get_or-append}
+use lib.Seq.{ext_get_or, length-take-le, get_or-take, get_or-drop, get_or-append_right, get_or-set_same, get_or-set_other, drop-set-lt}
 use Rattle.wordset.specs.Word.{bit, word_of}
 use Rattle.wordset.specs.Words.{member, filled, packed}
-use Rattle.wordset.proofs.BelowLaws.{top}
+use Rattle.wordset.proofs.BelowLaws.{top, lt-or-le}
 use Rattle.wordset.proofs.BitLaws.{bit-word_of, word_of-is}
 
 module _ (g : ℕ → ℕ) (d : List ℕ) where
@@ -78,3 +78,20 @@ member-packed P d w j h l =
 pub packed-is : (P : ℕ → Bool) (g : ℕ → ℕ) (d : List ℕ) (w : ℕ) → ((i : ℕ) → i < w → g i < 2 ^ 64)
     → ((i b : ℕ) → i < w → b < 64 → bit (g i) b ≡ P (i * 64 + b)) → filled w g d ≡ packed w P d
 packed-is P g d w r e = filled-ext g (λ i. word_of 64 (λ b. P (i * 64 + b))) d w (λ i l. word_of-is 64 (λ b. P (i * 64 + b)) (g i) (r i l) (λ b k. e i b l k))
+
+-- the first w words of another list, before the words behind
+filled-copy : (w : ℕ) (s d : List ℕ) → w ≤ length s → w ≤ length d → filled w (λ i. get_or s i 0) d ≡ take w s ++ drop w d
+filled-copy w s d h k =
+    let n : length (take w s) ≡ w = length-take-le w s h in
+    ext_get_or 0 (filled w (λ i. get_or s i 0) d) (take w s ++ drop w d)
+    (length-filled (λ i. get_or s i 0) d w ∙ (let z : length d ≡ length (take w s ++ drop w d) = omega (arith, length-append (take w s) (drop w d), length-drop w d) in z))
+    (λ i l. ⊎_elim
+    (λ (e : i < w). filled_at (λ i. get_or s i 0) d w i k e ∙ sym (get_or-append (take w s) (drop w d) 0 i (omega arith) ∙ get_or-take w s i 0 e))
+    (λ (e : w ≤ i).
+    let z : w + (i - w) ≡ i = omega arith in
+    filled-past (λ i. get_or s i 0) d w i e ∙ ap (λ (m : ℕ). get_or d m 0) (sym z) ∙ sym (get_or-append_right (take w s) (drop w d) i 0 (omega arith) ∙ ap (λ (m : ℕ). get_or (drop w d) (i - m) 0) n ∙ get_or-drop w d (i - w) 0))
+    (lt-or-le i w))
+
+-- a set that is copied is packed
+pub packed-copy : (w : ℕ) (s d : List ℕ) → w ≤ length s → w ≤ length d → ((i : ℕ) → get_or s i 0 < 2 ^ 64) → take w s ++ drop w d ≡ packed w (member s) d
+packed-copy w s d h k r = sym (filled-copy w s d h k) ∙ packed-is (member s) (λ i. get_or s i 0) d w (λ i l. r i) (λ i b l m. sym (member-at s i b m))

@@ -19,11 +19,7 @@ pub fn copy(dst: &mut [u64], src: &[u64], w: usize)
     requires { (w ≤ length dst.old) × (w ≤ length src.now) }
     ensures { dst.new ≡ packed w (member src.now) dst.old }
 {
-    let mut i = 0;
-    while i < w {
-        dst[i] = src[i];
-        i += 1;
-    }
+    dst[..w].copy_from_slice(&src[..w]);
 }
 
 // dst := dst less src, in the first w words: whether src has any.
@@ -32,13 +28,10 @@ pub fn subtract(dst: &mut [u64], src: &[u64], w: usize) -> bool
     ensures dst_after { dst.new ≡ minus w dst.old src.now }
     ensures value { result ≡ any_below (w * 64) (member src.now) }
 {
-    let mut any: u64 = 0;
-    let mut i = 0;
-    while i < w {
-        let x = src[i];
-        dst[i] = dst[i] & !x;
-        any = any | x;
-        i += 1;
+    let mut any = 0;
+    for i in 0..w {
+        dst[i] &= !src[i];
+        any |= src[i];
     }
     any != 0
 }
@@ -48,10 +41,8 @@ pub fn less(dst: &mut [u64], a: &[u64], b: &[u64], w: usize)
     requires { (w ≤ length dst.old) × (w ≤ length a.now) × (w ≤ length b.now) }
     ensures { dst.new ≡ packed w (λ j. member a.now j && not (member b.now j)) dst.old }
 {
-    let mut i = 0;
-    while i < w {
+    for i in 0..w {
         dst[i] = a[i] & !b[i];
-        i += 1;
     }
 }
 
@@ -60,14 +51,7 @@ pub fn equal(a: &[u64], b: &[u64], w: usize) -> bool
     requires { (w ≤ length a.now) × (w ≤ length b.now) }
     ensures { result ≡ all_below (w * 64) (λ j. beq (member a.now j) (member b.now j)) }
 {
-    let mut i = 0;
-    while i < w {
-        if a[i] != b[i] {
-            return false;
-        }
-        i += 1;
-    }
-    true
+    a[..w] == b[..w]
 }
 
 // How many numbers below 64 * w are members.
@@ -75,11 +59,9 @@ pub fn size(ws: &[u64], w: usize) -> usize
     requires { (w ≤ length ws.now) × (w * 64 < 2 ^ 64) }
     ensures { result ≡ count_below (w * 64) (member ws.now) }
 {
-    let mut n: usize = 0;
-    let mut i = 0;
-    while i < w {
-        n += u64::count_ones(ws[i]) as usize;
-        i += 1;
+    let mut n = 0;
+    for &x in &ws[..w] {
+        n += x.count_ones() as usize;
     }
     n
 }
@@ -89,12 +71,10 @@ pub fn first(ws: &[u64], w: usize) -> usize
     requires { (w ≤ length ws.now) × (w * 64 < 2 ^ 64) }
     ensures { result ≡ least (w * 64) (member ws.now) }
 {
-    let mut i = 0;
-    while i < w {
-        if ws[i] != 0 {
-            return i * 64 + u64::trailing_zeros(ws[i]) as usize;
+    for (i, &x) in ws[..w].iter().enumerate() {
+        if x != 0 {
+            return i * 64 + x.trailing_zeros() as usize;
         }
-        i += 1;
     }
     w * 64
 }

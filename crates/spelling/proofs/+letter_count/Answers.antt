@@ -5,9 +5,6 @@ use Rattle.spelling.proofs.+letter_count.Goals as goal
 pub returns-then-x-eq0 : goal.returns-then-x-eq0
 returns-then-x-eq0 t c = λ f h. count_none f _ h c.if-x-eq0.true
 
-pub letter_count-requires : goal.letter_count-requires
-letter_count-requires t c = (omega (arith, c.decreases, c.if-x-eq0.false), tt)
-
 pub overflow_add-result : goal.overflow_add-result
 overflow_add-result t c = let q = c.letter_count.ensures 8 (omega arith) in omega (arith, q.1)
 

@@ -1,30 +1,18 @@
+use Prim.Native.Nat.{◌-◌}
 use native.Mathlib.Omega.{arith}
-use Rattle.spelling.proofs.SpellingLaws.{packed_none, packed-next, packed_all}
+use Rattle.spelling.proofs.SpellingLaws.{packed_none, packed-next}
 use Rattle.spelling.proofs.word_from.Goals as goal
 
 pub loop-i-init : goal.loop-i-init
-loop-i-init c = packed_none c.args.w.now c.args.a c.requires.0
-
-pub overflow_sub-i : goal.overflow_sub-i
-overflow_sub-i c = omega arith
-
-pub bounds-w-i : goal.bounds-w-i
-bounds-w-i c = omega (arith, c.loop-i.invariant.inside)
-
-pub wide-requires : goal.wide-requires
-wide-requires c = tt
+loop-i-init c = (c.requires.0, packed_none _)
 
 pub overflow_mul-x : goal.overflow_mul-x
-overflow_mul-x c = let q = c.loop-i.invariant.small 7 (omega arith) in omega arith
+overflow_mul-x c = let q = c.loop-i.invariant.1.small 7 (omega arith) in omega arith
 
 pub overflow_add-x : goal.overflow_add-x
-overflow_add-x c = let q = c.loop-i.invariant.small 7 (omega arith) in omega (arith, c.wide.ensures.1)
-
-pub loop-i-smaller : goal.loop-i-smaller
-loop-i-smaller c = omega arith
+overflow_add-x c = let q = c.loop-i.invariant.1.small 7 (omega arith) in let h = c.type_inv.w (c.loop-i.i - 1) in omega (arith, c.from.ensures, h)
 
 pub loop-i-preserved : goal.loop-i-preserved
-loop-i-preserved c = packed-next c.loop-i.invariant c.loop-i-test.true c.wide.ensures.0 c.wide.ensures.1
-
-pub returns : goal.returns
-returns c = packed_all c.loop-i.invariant c.loop-i-test.false
+loop-i-preserved c =
+    let h = c.type_inv.w (c.loop-i.i - 1) in
+    (omega arith, packed-next c.loop-i.invariant.1 (omega arith) (omega arith) c.from.ensures (omega (arith, c.from.ensures, h)))

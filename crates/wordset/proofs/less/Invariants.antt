@@ -1,6 +1,5 @@
 -- `less` meets its contract: after i turns the first i words of dst hold the numbers that are in a and not in b. Assumes nothing.
 use mathlib.Core.Bool.{◌&&◌, not}
-use Prim.Native.Nat.{◌-◌}
 use Rattle.wordset.specs.Words.{member}
 use Rattle.wordset.proofs.PackLaws.{pack_word}
 use Rattle.wordset.proofs.Filling.{Filling}
@@ -8,6 +7,3 @@ use Rattle.wordset.proofs.less.Given as goal
 
 abbrev pub invariant-loop-i : goal.invariant-loop-i
 invariant-loop-i l = Filling (pack_word (λ j. member l.a j && not (member l.b j))) l.initial.dst l.w l.dst l.i
-
-abbrev pub decreases-loop-i : goal.decreases-loop-i
-decreases-loop-i l = l.w - l.i

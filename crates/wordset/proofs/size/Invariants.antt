@@ -1,11 +1,7 @@
--- `size` meets its contract: n counts the members in the first i words. Assumes nothing.
+-- `size` meets its contract: n counts the members in the words that the loop has seen. Assumes nothing.
 use Rattle.wordset.proofs.Scanning.{Counted}
-use Prim.Native.Nat.{◌-◌}
 use Rattle.wordset.specs.Words.{member}
 use Rattle.wordset.proofs.size.Given as goal
 
-abbrev pub invariant-loop-i : goal.invariant-loop-i
-invariant-loop-i l = Counted (member l.ws) l.w l.i l.n
-
-abbrev pub decreases-loop-i : goal.decreases-loop-i
-decreases-loop-i l = l.w - l.i
+abbrev pub invariant-loop-x : goal.invariant-loop-x
+invariant-loop-x l = Counted (member l.ws) l.w l.x-index l.n
