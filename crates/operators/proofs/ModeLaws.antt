@@ -90,7 +90,7 @@ module _ (s decl : List ℕ) (at mask low : ℕ) where
       go (suc f) h = m f (omega arith) ∙ sym (modes-step f r₁ e)
 
   -- the first token, and the mode that it is
-  module _ (t : Token) (i : InnerIs s at t) (r₁ : Option Modes) (a : ModeRead decl mask t r₁) where
+  module _ {t : Token} (i : InnerIs s at t) {r₁ : Option Modes} (a : ModeRead decl mask t r₁) where
     mode-is : r₁ ≡ mode_at s decl at mask
     unfolding mode_at
     mode-is = rw (← i.is) a.is
@@ -99,31 +99,31 @@ module _ (s decl : List ℕ) (at mask low : ℕ) where
     modes-wrong d = modes-read r₁ None mode-is tt (λ f h. rw d refl)
 
     -- the second token
-    module _ (b : Modes) (d : r₁ ≡ Some b) (u : Token) (j : InnerIs s t.next u) where
-      pub mode-behind : (b.next ≡ t.next) × (b.mask < 65536)
+    module _ {b : Modes} (d : r₁ ≡ Some b) {u : Token} (j : InnerIs s t.next u) where
+      mode-behind : (b.next ≡ t.next) × (b.mask < 65536)
       mode-behind = rw d at a.inside
 
       pub modes-none : (u.tok ≡ Comma → ⊥) → (u.tok ≡ CloseBrace → ⊥) → ModesRead s decl at mask low None
       modes-none h g = modes-read r₁ None mode-is tt (λ f k. rw (d, mode-behind.0, ← j.is) (sym (no_more s decl _ b.mask (min low b.low) u.next u.tok h g)))
 
-      pub modes-last : (n : ℕ) → u.tok ≡ CloseBrace → n ≡ min low b.low → ModesRead s decl at mask low (braced u.next b.mask n)
-      modes-last n k g =
+      pub modes-last : {n : ℕ} → u.tok ≡ CloseBrace → n ≡ min low b.low → ModesRead s decl at mask low (braced u.next b.mask n)
+      modes-last k g =
           let c : t.next < u.next = token-past j k refl in
           modes-read r₁ _ mode-is (omega (arith, i.past), (j.inside, mode-behind.1)) (λ f h. rw (d, mode-behind.0, ← j.is, k, g) refl)
 
-      pub modes-more : (n : ℕ) (r : Option Modes) → u.tok ≡ Comma → n ≡ min low b.low → ModesRead s decl u.next b.mask n r → ModesRead s decl at mask low r
-      modes-more n r k g w =
+      pub modes-more : {n : ℕ} {r : Option Modes} → u.tok ≡ Comma → n ≡ min low b.low → ModesRead s decl u.next b.mask n r → ModesRead s decl at mask low r
+      modes-more {r} k g w =
           let c : t.next < u.next = token-past j k refl in
           modes-read r₁ r mode-is (modes-earlier (length s) at u.next r (omega (arith, i.past)) w.inside) (λ f h. rw (d, mode-behind.0, ← j.is, k, ← g) (w.meets f (omega (arith, i.past, j.inside))))
 
 -- ---- braces
-module _ (s decl : List ℕ) (at : ℕ) (t : Token) (i : TokenIs s at t) where
+module _ (s decl : List ℕ) (at : ℕ) {t : Token} (i : TokenIs s at t) where
   pub braces-none : (t.tok ≡ OpenBrace → ⊥) → (None ≡ braces_at s decl at) × Unit {0}
   unfolding braces_at
   braces-none o = (rw (← i.is) (sym (no-open_brace None _ t.tok o)), tt)
 
   -- what stands behind the brace, read as outside braces
-  module _ (u : Token) (k : t.tok ≡ OpenBrace) (j : TokenIs s t.next u) where
+  module _ {u : Token} (k : t.tok ≡ OpenBrace) (j : TokenIs s t.next u) where
     pub braces-empty : u.tok ≡ CloseBrace → (braced u.next 0 8 ≡ braces_at s decl at) × ((at < u.next) × ((u.next ≤ length s) × (0 < 65536)))
     unfolding braces_at
     braces-empty c =
@@ -131,8 +131,8 @@ module _ (s decl : List ℕ) (at : ℕ) (t : Token) (i : TokenIs s at t) where
         let b : t.next < u.next = token-past j c refl in
         (rw (← i.is, k, closing-inner s t.next (rw (← j.is) c), ← j.is, c) refl, (omega arith, (j.inside, omega arith)))
 
-    pub braces-modes : (r : Option Modes) → (u.tok ≡ CloseBrace → ⊥) → ModesRead s decl t.next 0 9 r → (r ≡ braces_at s decl at) × ModesInside (length s) at r
+    pub braces-modes : {r : Option Modes} → (u.tok ≡ CloseBrace → ⊥) → ModesRead s decl t.next 0 9 r → (r ≡ braces_at s decl at) × ModesInside (length s) at r
     unfolding braces_at
-    braces-modes r o w =
+    braces-modes {r} o w =
         let a : at < t.next = token-past i k refl in
         (rw (← i.is, k, closing_same _ _ s t.next, ← j.is) (w.meets (length s + 1) (omega arith) ∙ sym (no-close_brace _ _ u.tok o)), modes-earlier (length s) at t.next r a w.inside)
