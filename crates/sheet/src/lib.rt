@@ -5,8 +5,6 @@ ghost use Rattle.std.specs.Prelude.{◌≡◌, ◌+◌, ◌-◌, ◌≤◌, ◌<
 ghost use Rattle.layout.specs.Layout.{lines_from, texts_of, layout_right};
 ghost use Rattle.sheet.specs.Sheet.{found_refusal, OneRead, FormulasRead, SheetRead, goal_under, goal_start};
 
-use syntax::Parse;
-
 // A formula that was read: how many nodes the table then holds, and its refusal 6, 7 or 8, or 9 for none.
 #[derive(Clone, Copy)]
 pub struct One {
@@ -32,15 +30,11 @@ fn read_one(text: &[u8], decl: &[u64], tab: &mut [u64], n: usize) -> One
     ensures { OneRead text.now decl.now n tab.old tab.new result }
 {
     match syntax::read_line(text, decl, 0, tab, n) {
-        Parse::Done {
-            next: _,
-            count,
-            low,
-        } => One {
-            count,
-            low: found_refusal(low),
+        Some(p) => One {
+            count: p.count,
+            low: found_refusal(p.low),
         },
-        Parse::Wrong => One { count: n, low: 6 },
+        None => One { count: n, low: 6 },
     }
 }
 
