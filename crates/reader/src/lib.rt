@@ -4,7 +4,6 @@
 ghost use Rattle.std.specs.Prelude.{◌≡◌, ◌-◌, ◌≤◌, ◌<◌, length};
 ghost use Rattle.reader.specs.Reader.{refusal_by, number_of, blank, RootsAre, ReadIs};
 
-use closure::Closed;
 use lean::Gathered;
 
 // Why a sheet is refused; `Accepted` where it is not. `Limits` is for those who give limits: they are out of their range, whatever the sheet.
@@ -113,8 +112,7 @@ fn read_in(s: &[u8], most: usize, wide: usize, nodes: &mut [u64]) -> Reading
     // Room for 128 closure members and 8 values.
     let mut members = [0u64; 136];
     let mut places = [0usize; 5];
-    let Closed::Within(closed) = closure::close(nodes, &roots[..n], &mut members, &mut places)
-    else {
+    let Some(closed) = closure::close(nodes, &roots[..n], &mut members, &mut places) else {
         return refused(Refusal::Closure);
     };
     if most < closed {

@@ -27,7 +27,7 @@ returns-in_default c =
 
 pub returns-then-most-closed : goal.returns-then-most-closed
 returns-then-most-closed c =
-    refused-many c.read_sheet-sheet.ensures c.if-k-ne0.false (still-few c.read_sheet-sheet.auto.tab c.requires.nodes_nonzero.0) c.roots_of-roots.ensures c.requires.most_bound.0 refl c.close.ensures c.in-Within.is c.if-most-closed.true c.refused-then-most-closed.ensures
+    refused-many c.read_sheet-sheet.ensures c.if-k-ne0.false (still-few c.read_sheet-sheet.auto.tab c.requires.nodes_nonzero.0) c.roots_of-roots.ensures c.requires.most_bound.0 refl c.close.ensures c.in-Some.is c.if-most-closed.true c.refused-then-most-closed.ensures
 
 pub slice_bounds-kinds-end : goal.slice_bounds-kinds-end
 slice_bounds-kinds-end c =
@@ -39,7 +39,7 @@ slice_bounds-with_values-end c =
 
 pub with_values-count-requires : goal.with_values-count-requires
 with_values-count-requires c =
-    values-ask c.read_sheet-sheet.ensures c.if-k-ne0.false (still-few c.read_sheet-sheet.auto.tab c.requires.nodes_nonzero.0) c.roots_of-roots.ensures c.requires.most_bound.0 refl c.close.ensures c.in-Within.is c.if-most-closed.false c.requires.most_bound.1
+    values-ask c.read_sheet-sheet.ensures c.if-k-ne0.false (still-few c.read_sheet-sheet.auto.tab c.requires.nodes_nonzero.0) c.roots_of-roots.ensures c.requires.most_bound.0 refl c.close.ensures c.in-Some.is c.if-most-closed.false c.requires.most_bound.1
 
 pub slice_bounds-words-end : goal.slice_bounds-words-end
 slice_bounds-words-end c =
@@ -51,7 +51,7 @@ slice_bounds-lean_of-end-2 c =
 
 pub lean_of-requires : goal.lean_of-requires
 lean_of-requires c =
-    leans c.read_sheet-sheet.ensures c.if-k-ne0.false (still-few c.read_sheet-sheet.auto.tab c.requires.nodes_nonzero.0) c.roots_of-roots.ensures c.requires.most_bound.0 refl c.close.ensures c.in-Within.is c.if-most-closed.false c.requires.most_bound.1 c.with_values-count.ensures (words-line c.read_sheet-sheet.ensures c.if-k-ne0.false (still-few c.read_sheet-sheet.auto.tab c.requires.nodes_nonzero.0))
+    leans c.read_sheet-sheet.ensures c.if-k-ne0.false (still-few c.read_sheet-sheet.auto.tab c.requires.nodes_nonzero.0) c.roots_of-roots.ensures c.requires.most_bound.0 refl c.close.ensures c.in-Some.is c.if-most-closed.false c.requires.most_bound.1 c.with_values-count.ensures (words-line c.read_sheet-sheet.ensures c.if-k-ne0.false (still-few c.read_sheet-sheet.auto.tab c.requires.nodes_nonzero.0))
 
 pub shape_of-nodes-in_default-lean_of : goal.shape_of-nodes-in_default-lean_of
 shape_of-nodes-in_default-lean_of c =
@@ -59,7 +59,7 @@ shape_of-nodes-in_default-lean_of c =
 
 pub returns-in_default-lean_of : goal.returns-in_default-lean_of
 returns-in_default-lean_of c =
-    refused-crowded c.read_sheet-sheet.ensures c.if-k-ne0.false (still-few c.read_sheet-sheet.auto.tab c.requires.nodes_nonzero.0) c.roots_of-roots.ensures c.requires.most_bound.0 refl c.close.ensures c.in-Within.is c.if-most-closed.false c.requires.most_bound.1 c.with_values-count.ensures (words-line c.read_sheet-sheet.ensures c.if-k-ne0.false (still-few c.read_sheet-sheet.auto.tab c.requires.nodes_nonzero.0)) refl c.lean_of.ensures c.in_default-lean_of.is c.refused-in_default-lean_of.ensures
+    refused-crowded c.read_sheet-sheet.ensures c.if-k-ne0.false (still-few c.read_sheet-sheet.auto.tab c.requires.nodes_nonzero.0) c.roots_of-roots.ensures c.requires.most_bound.0 refl c.close.ensures c.in-Some.is c.if-most-closed.false c.requires.most_bound.1 c.with_values-count.ensures (words-line c.read_sheet-sheet.ensures c.if-k-ne0.false (still-few c.read_sheet-sheet.auto.tab c.requires.nodes_nonzero.0)) refl c.lean_of.ensures c.in_default-lean_of.is c.refused-in_default-lean_of.ensures
 
 pub shape_of-nodes-then-wide-width : goal.shape_of-nodes-then-wide-width
 shape_of-nodes-then-wide-width c =
@@ -67,8 +67,8 @@ shape_of-nodes-then-wide-width c =
 
 pub returns-then-wide-width : goal.returns-then-wide-width
 returns-then-wide-width c =
-    refused-wide c.read_sheet-sheet.ensures c.if-k-ne0.false (still-few c.read_sheet-sheet.auto.tab c.requires.nodes_nonzero.0) c.roots_of-roots.ensures c.requires.most_bound.0 refl c.close.ensures c.in-Within.is c.if-most-closed.false c.requires.most_bound.1 c.with_values-count.ensures (words-line c.read_sheet-sheet.ensures c.if-k-ne0.false (still-few c.read_sheet-sheet.auto.tab c.requires.nodes_nonzero.0)) refl c.lean_of.ensures c.in-Count.is c.if-wide-width.true c.refused-then-wide-width.ensures
+    refused-wide c.read_sheet-sheet.ensures c.if-k-ne0.false (still-few c.read_sheet-sheet.auto.tab c.requires.nodes_nonzero.0) c.roots_of-roots.ensures c.requires.most_bound.0 refl c.close.ensures c.in-Some.is c.if-most-closed.false c.requires.most_bound.1 c.with_values-count.ensures (words-line c.read_sheet-sheet.ensures c.if-k-ne0.false (still-few c.read_sheet-sheet.auto.tab c.requires.nodes_nonzero.0)) refl c.lean_of.ensures c.in-Count.is c.if-wide-width.true c.refused-then-wide-width.ensures
 
 pub returns : goal.returns
 returns c =
-    accepted-is c.read_sheet-sheet.ensures c.if-k-ne0.false (still-few c.read_sheet-sheet.auto.tab c.requires.nodes_nonzero.0) c.roots_of-roots.ensures c.requires.most_bound.0 refl c.close.ensures c.in-Within.is c.if-most-closed.false c.requires.most_bound.1 c.with_values-count.ensures (words-line c.read_sheet-sheet.ensures c.if-k-ne0.false (still-few c.read_sheet-sheet.auto.tab c.requires.nodes_nonzero.0)) refl c.lean_of.ensures c.in-Count.is c.if-wide-width.false
+    accepted-is c.read_sheet-sheet.ensures c.if-k-ne0.false (still-few c.read_sheet-sheet.auto.tab c.requires.nodes_nonzero.0) c.roots_of-roots.ensures c.requires.most_bound.0 refl c.close.ensures c.in-Some.is c.if-most-closed.false c.requires.most_bound.1 c.with_values-count.ensures (words-line c.read_sheet-sheet.ensures c.if-k-ne0.false (still-few c.read_sheet-sheet.auto.tab c.requires.nodes_nonzero.0)) refl c.lean_of.ensures c.in-Count.is c.if-wide-width.false
