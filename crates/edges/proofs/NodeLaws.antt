@@ -68,6 +68,3 @@ repeat-none f = refl
 pub repeat-on : (f : ℕ → ℕ) (k x y : ℕ) → x ≡ repeat k f → y ≡ f x → y ≡ repeat (k + 1) f
 unfolding repeat
 repeat-on f k x y e g = g ∙ ap f e ∙ ap (λ j. repeat j f) (sym (add-one k))
-
-pub repeat-end : (f : ℕ → ℕ) (k n x : ℕ) → x ≡ repeat k f → k ≤ n → n ≤ k → x ≡ repeat n f
-repeat-end f k n x e h l = let g : k ≡ n = omega arith in e ∙ ap (λ j. repeat j f) g
