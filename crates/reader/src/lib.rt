@@ -5,7 +5,6 @@ ghost use Rattle.std.specs.Prelude.{◌≡◌, ◌-◌, ◌≤◌, ◌<◌, leng
 ghost use Rattle.refusal.specs.Number.{number_of};
 ghost use Rattle.reader.specs.Reader.{RootsAre, ReadIs};
 
-use closure::Closed;
 use lean::Gathered;
 use refusal::Refusal;
 
@@ -72,8 +71,7 @@ fn read_in(s: &[u8], most: usize, wide: usize, nodes: &mut [u64]) -> Result<Read
     // Room for 128 closure members and 8 values.
     let mut members = [0u64; 136];
     let mut places = [0usize; 5];
-    let Closed::Within(closed) = closure::close(nodes, &roots[..n], &mut members, &mut places)
-    else {
+    let Some(closed) = closure::close(nodes, &roots[..n], &mut members, &mut places) else {
         return Err(Refusal::Closure);
     };
     if most < closed {

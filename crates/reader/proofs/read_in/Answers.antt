@@ -30,7 +30,7 @@ returns-in_default c =
 
 pub returns-then-most-closed : goal.returns-then-most-closed
 returns-then-most-closed c =
-    refused-many c.read_sheet-sheet.ensures c.if-k-ne0.false (still-few c.read_sheet-sheet.auto.tab c.requires.nodes_nonzero.0) c.roots_of-roots.ensures c.requires.most_bound.0 refl c.close.ensures c.in-Within.is _ c.if-most-closed.true
+    refused-many c.read_sheet-sheet.ensures c.if-k-ne0.false (still-few c.read_sheet-sheet.auto.tab c.requires.nodes_nonzero.0) c.roots_of-roots.ensures c.requires.most_bound.0 refl c.close.ensures c.in-Some.is _ c.if-most-closed.true
 
 pub slice_bounds-kinds-end : goal.slice_bounds-kinds-end
 slice_bounds-kinds-end c =
@@ -42,7 +42,7 @@ slice_bounds-with_values-end c =
 
 pub with_values-count-requires : goal.with_values-count-requires
 with_values-count-requires c =
-    values-ask c.read_sheet-sheet.ensures c.if-k-ne0.false (still-few c.read_sheet-sheet.auto.tab c.requires.nodes_nonzero.0) c.roots_of-roots.ensures c.requires.most_bound.0 refl c.close.ensures c.in-Within.is c.if-most-closed.false c.requires.most_bound.1
+    values-ask c.read_sheet-sheet.ensures c.if-k-ne0.false (still-few c.read_sheet-sheet.auto.tab c.requires.nodes_nonzero.0) c.roots_of-roots.ensures c.requires.most_bound.0 refl c.close.ensures c.in-Some.is c.if-most-closed.false c.requires.most_bound.1
 
 pub slice_bounds-words-end : goal.slice_bounds-words-end
 slice_bounds-words-end c =
@@ -54,7 +54,7 @@ slice_bounds-lean_of-end-2 c =
 
 pub lean_of-requires : goal.lean_of-requires
 lean_of-requires c =
-    leans c.read_sheet-sheet.ensures c.if-k-ne0.false (still-few c.read_sheet-sheet.auto.tab c.requires.nodes_nonzero.0) c.roots_of-roots.ensures c.requires.most_bound.0 refl c.close.ensures c.in-Within.is c.if-most-closed.false c.requires.most_bound.1 c.with_values-count.ensures (words-line c.read_sheet-sheet.ensures c.if-k-ne0.false (still-few c.read_sheet-sheet.auto.tab c.requires.nodes_nonzero.0))
+    leans c.read_sheet-sheet.ensures c.if-k-ne0.false (still-few c.read_sheet-sheet.auto.tab c.requires.nodes_nonzero.0) c.roots_of-roots.ensures c.requires.most_bound.0 refl c.close.ensures c.in-Some.is c.if-most-closed.false c.requires.most_bound.1 c.with_values-count.ensures (words-line c.read_sheet-sheet.ensures c.if-k-ne0.false (still-few c.read_sheet-sheet.auto.tab c.requires.nodes_nonzero.0))
 
 pub shape_of-nodes-in_default-lean_of : goal.shape_of-nodes-in_default-lean_of
 shape_of-nodes-in_default-lean_of c =
@@ -62,7 +62,7 @@ shape_of-nodes-in_default-lean_of c =
 
 pub returns-in_default-lean_of : goal.returns-in_default-lean_of
 returns-in_default-lean_of c =
-    refused-crowded c.read_sheet-sheet.ensures c.if-k-ne0.false (still-few c.read_sheet-sheet.auto.tab c.requires.nodes_nonzero.0) c.roots_of-roots.ensures c.requires.most_bound.0 refl c.close.ensures c.in-Within.is c.if-most-closed.false c.requires.most_bound.1 c.with_values-count.ensures (words-line c.read_sheet-sheet.ensures c.if-k-ne0.false (still-few c.read_sheet-sheet.auto.tab c.requires.nodes_nonzero.0)) refl c.lean_of.ensures c.in_default-lean_of.is
+    refused-crowded c.read_sheet-sheet.ensures c.if-k-ne0.false (still-few c.read_sheet-sheet.auto.tab c.requires.nodes_nonzero.0) c.roots_of-roots.ensures c.requires.most_bound.0 refl c.close.ensures c.in-Some.is c.if-most-closed.false c.requires.most_bound.1 c.with_values-count.ensures (words-line c.read_sheet-sheet.ensures c.if-k-ne0.false (still-few c.read_sheet-sheet.auto.tab c.requires.nodes_nonzero.0)) refl c.lean_of.ensures c.in_default-lean_of.is
 
 pub shape_of-nodes-then-wide-width : goal.shape_of-nodes-then-wide-width
 shape_of-nodes-then-wide-width c =
@@ -70,8 +70,8 @@ shape_of-nodes-then-wide-width c =
 
 pub returns-then-wide-width : goal.returns-then-wide-width
 returns-then-wide-width c =
-    refused-wide c.read_sheet-sheet.ensures c.if-k-ne0.false (still-few c.read_sheet-sheet.auto.tab c.requires.nodes_nonzero.0) c.roots_of-roots.ensures c.requires.most_bound.0 refl c.close.ensures c.in-Within.is c.if-most-closed.false c.requires.most_bound.1 c.with_values-count.ensures (words-line c.read_sheet-sheet.ensures c.if-k-ne0.false (still-few c.read_sheet-sheet.auto.tab c.requires.nodes_nonzero.0)) refl c.lean_of.ensures c.in-Count.is c.if-wide-width.true
+    refused-wide c.read_sheet-sheet.ensures c.if-k-ne0.false (still-few c.read_sheet-sheet.auto.tab c.requires.nodes_nonzero.0) c.roots_of-roots.ensures c.requires.most_bound.0 refl c.close.ensures c.in-Some.is c.if-most-closed.false c.requires.most_bound.1 c.with_values-count.ensures (words-line c.read_sheet-sheet.ensures c.if-k-ne0.false (still-few c.read_sheet-sheet.auto.tab c.requires.nodes_nonzero.0)) refl c.lean_of.ensures c.in-Count.is c.if-wide-width.true
 
 pub returns : goal.returns
 returns c =
-    accepted-is c.read_sheet-sheet.ensures c.if-k-ne0.false (still-few c.read_sheet-sheet.auto.tab c.requires.nodes_nonzero.0) c.roots_of-roots.ensures c.requires.most_bound.0 refl c.close.ensures c.in-Within.is c.if-most-closed.false c.requires.most_bound.1 c.with_values-count.ensures (words-line c.read_sheet-sheet.ensures c.if-k-ne0.false (still-few c.read_sheet-sheet.auto.tab c.requires.nodes_nonzero.0)) refl c.lean_of.ensures c.in-Count.is c.if-wide-width.false
+    accepted-is c.read_sheet-sheet.ensures c.if-k-ne0.false (still-few c.read_sheet-sheet.auto.tab c.requires.nodes_nonzero.0) c.roots_of-roots.ensures c.requires.most_bound.0 refl c.close.ensures c.in-Some.is c.if-most-closed.false c.requires.most_bound.1 c.with_values-count.ensures (words-line c.read_sheet-sheet.ensures c.if-k-ne0.false (still-few c.read_sheet-sheet.auto.tab c.requires.nodes_nonzero.0)) refl c.lean_of.ensures c.in-Count.is c.if-wide-width.false
