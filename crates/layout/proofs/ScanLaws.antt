@@ -1,6 +1,6 @@
 -- What the library's methods and the loops' tests say of a text. Assumes nothing.
 use mathlib.Core.Path.{◌≡◌, refl, sym, ap, ap₂}
-use mathlib.Core.Bool.{Bool, true, false, not, ◌&&◌, ◌||◌, or-false}
+use mathlib.Core.Bool.{Bool, true, false, cond, not, ◌&&◌, ◌||◌, or-false}
 use mathlib.Core.List.{List, [], ◌∷◌}
 use Prim.Native.Nat.{ℕ, zero, suc, ◌+◌, ◌-◌, ◌≤◌, ◌<◌}
 use native.Mathlib.Numerals.{add-one}
@@ -10,9 +10,9 @@ use lib.ListN.{length, get_or, take, drop, length-drop, length-take, drop_of_len
 use lib.Seq.{drop-cons}
 use lib.Dec.{eqb, ltb}
 use borrow.Author.Tests.{eq-eqb, ne_eqb, eqb-true, eqb-false, lt-ltb, le-ltb}
-use Rattle.std.specs.List.{list_any, starts_with}
+use Rattle.std.specs.List.{list_any, slice_split, starts_with}
 use Rattle.std.specs.Cmp.Lexicographic.{pointwise}
-use Rattle.layout.specs.Text.{part, upto, end_of, split, same, begins, has}
+use Rattle.layout.specs.Text.{part, upto, end_of, push, split, same, begins, has}
 use Rattle.layout.specs.Layout.{newline, any_long, byte_right, byte_wrong}
 use Rattle.layout.proofs.TextLaws.{split-last, split-next, cut-last, cut-next}
 
@@ -36,6 +36,12 @@ same-is [] [] = refl
 same-is [] (d ∷ q) = refl
 same-is (c ∷ r) [] = refl
 same-is (c ∷ r) (d ∷ q) = ap (λ t. eqb c d && t) (same-is r q)
+
+-- the parts of a text between its b's
+pub split-is : (b : ℕ) (s : List ℕ) → slice_split (λ c. eqb c b) s ≡ split b s
+unfolding split
+split-is b [] = refl
+split-is b (c ∷ r) = ap (λ t. cond (eqb c b) ([] ∷ t) (push c t)) (split-is b r)
 
 eqb-comm : (c d : ℕ) → eqb d c ≡ eqb c d
 eqb-comm c d = go (eqb d c) refl
