@@ -9,7 +9,7 @@ pub fn next_line(s: &[u8], at: usize) -> usize
     requires { at ≤ length s.now }
     ensures { NextLine s.now at result }
 {
-    let e = end_of(10, s, at);
+    let e = end_of(b'\n', s, at);
     if e < s.len() {
         return e + 1;
     }
@@ -23,7 +23,7 @@ pub fn count_lines(s: &[u8]) -> usize
     let mut n: usize = 0;
     let mut at = 0;
     while at < s.len() {
-        let e = end_of(10, s, at);
+        let e = end_of(b'\n', s, at);
         if s.len() <= e {
             return n;
         }

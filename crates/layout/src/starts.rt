@@ -26,9 +26,9 @@ pub fn starts_right(s: &[u8], from: usize) -> bool
         return true;
     }
     let mut at = from;
-    let mut e = end_of(10, s, from);
+    let mut e = end_of(b'\n', s, from);
     while e < s.len() {
-        let after = end_of(10, s, e + 1);
+        let after = end_of(b'\n', s, e + 1);
         if s.len() <= after {
             return goal_start(&s[at..e]);
         }
@@ -49,7 +49,7 @@ pub fn layout_right(s: &[u8]) -> bool
     if n == 0 {
         return false;
     }
-    if s[n - 1] != 10 {
+    if s[n - 1] != b'\n' {
         return false;
     }
     let k = count_lines(s);

@@ -36,21 +36,21 @@ kind_right-requires c = omega arith
 pub returns-then-not-kind_right : goal.returns-then-not-kind_right
 returns-then-not-kind_right c =
     let p = c.loop-kinds.invariant in
-    record { few = omega arith; room = p.room; are = collect-wrong p c.end_of-e.ensures.0 c.end_of-e.ensures.1.1 (sym (right_is _ _ c.kind_of-k.ensures c.kind_right.ensures) ∙ c.if-not-kind_right.true) }
+    collect-wrong p c.end_of-e.ensures.0 c.end_of-e.ensures.1.1 (sym (right_is _ _ c.kind_of-k.ensures c.kind_right.ensures) ∙ c.if-not-kind_right.true)
 
-pub bounds-kinds-n : goal.bounds-kinds-n
-bounds-kinds-n c =
+pub bounds-kinds-count : goal.bounds-kinds-count
+bounds-kinds-count c =
     collect-room c.loop-kinds.invariant c.end_of-e.ensures.0 c.end_of-e.ensures.1.1 kind-few (sym (right_is _ _ c.kind_of-k.ensures c.kind_right.ensures) ∙ c.if-not-kind_right.false)
 
-pub overflow_add-n : goal.overflow_add-n
-overflow_add-n c =
+pub overflow_add-count : goal.overflow_add-count
+overflow_add-count c =
     omega (arith, collect-room c.loop-kinds.invariant c.end_of-e.ensures.0 c.end_of-e.ensures.1.1 kind-few (sym (right_is _ _ c.kind_of-k.ensures c.kind_right.ensures) ∙ c.if-not-kind_right.false))
 
 pub returns-then-line-e : goal.returns-then-line-e
 returns-then-line-e c =
     let p = c.loop-kinds.invariant in
     let r = sym (right_is _ _ c.kind_of-k.ensures c.kind_right.ensures) ∙ c.if-not-kind_right.false in
-    record { few = omega (arith, collect-room p c.end_of-e.ensures.0 c.end_of-e.ensures.1.1 kind-few r); room = simp length-set p.room; are = collect-last p c.end_of-e.ensures.0 c.end_of-e.ensures.1.1 kind-few r c.kind_of-k.ensures c.if-line-e.true }
+    record { some = omega arith; few = omega (arith, collect-room p c.end_of-e.ensures.0 c.end_of-e.ensures.1.1 kind-few r); room = simp length-set p.room; are = collect-last p c.end_of-e.ensures.0 c.end_of-e.ensures.1.1 kind-few r c.kind_of-k.ensures c.if-line-e.true }
 
 pub overflow_add-at : goal.overflow_add-at
 overflow_add-at c = omega arith

@@ -1,6 +1,6 @@
 use lib.Seq.{length-take-le}
 use native.Mathlib.Omega.{arith}
-use Rattle.head.proofs.WordLaws.{collect-wrong, collect-room, collect-last, collect-next, word-few, word-spelled}
+use Rattle.head.proofs.WordLaws.{none-of, collect-wrong, collect-room, collect-last, collect-next, word-few, word-spelled}
 use Rattle.head.proofs.Spellings.{names-packed}
 use lib.ListN.{length-set}
 use mathlib.Core.Path.{refl, sym, ◌∙◌}
@@ -27,7 +27,7 @@ name_right-requires c = omega arith
 pub returns-then-not-name_right : goal.returns-then-not-name_right
 returns-then-not-name_right c =
     let p = c.loop-words.invariant in
-    record { few = omega arith; room = p.room; are = collect-wrong p c.end_of-e.ensures.0 c.end_of-e.ensures.1.1 (sym c.name_right.ensures ∙ c.if-not-name_right.true) }
+    none-of _ (collect-wrong p c.end_of-e.ensures.0 c.end_of-e.ensures.1.1 (sym c.name_right.ensures ∙ c.if-not-name_right.true))
 
 pub slice_bounds-word_from-count : goal.slice_bounds-word_from-count
 slice_bounds-word_from-count c = omega arith
@@ -36,23 +36,23 @@ pub word_from-requires : goal.word_from-requires
 word_from-requires c =
     (omega arith, (word-spelled _ _ (sym c.name_right.ensures ∙ c.if-not-name_right.false)).short)
 
-pub bounds-words-n : goal.bounds-words-n
-bounds-words-n c =
+pub bounds-words-count : goal.bounds-words-count
+bounds-words-count c =
     collect-room c.loop-words.invariant c.end_of-e.ensures.0 c.end_of-e.ensures.1.1 word-few (sym c.name_right.ensures ∙ c.if-not-name_right.false)
 
-pub offset_bounds-words-n : goal.offset_bounds-words-n
-offset_bounds-words-n c =
+pub offset_bounds-words-count : goal.offset_bounds-words-count
+offset_bounds-words-count c =
     omega (arith, collect-room c.loop-words.invariant c.end_of-e.ensures.0 c.end_of-e.ensures.1.1 word-few (sym c.name_right.ensures ∙ c.if-not-name_right.false))
 
-pub overflow_add-n : goal.overflow_add-n
-overflow_add-n c =
+pub overflow_add-count : goal.overflow_add-count
+overflow_add-count c =
     omega (arith, collect-room c.loop-words.invariant c.end_of-e.ensures.0 c.end_of-e.ensures.1.1 word-few (sym c.name_right.ensures ∙ c.if-not-name_right.false))
 
 pub returns-then-line-e : goal.returns-then-line-e
 returns-then-line-e c =
     let p = c.loop-words.invariant in
     let r = sym c.name_right.ensures ∙ c.if-not-name_right.false in
-    record { few = omega (arith, collect-room p c.end_of-e.ensures.0 c.end_of-e.ensures.1.1 word-few r); room = simp length-set p.room; are = collect-last p c.end_of-e.ensures.0 c.end_of-e.ensures.1.1 word-few r c.word_from.ensures.0 c.if-line-e.true }
+    record { some = omega arith; few = omega (arith, collect-room p c.end_of-e.ensures.0 c.end_of-e.ensures.1.1 word-few r); room = simp length-set p.room; are = collect-last p c.end_of-e.ensures.0 c.end_of-e.ensures.1.1 word-few r c.word_from.ensures.0 c.if-line-e.true }
 
 pub overflow_add-at : goal.overflow_add-at
 overflow_add-at c = omega arith

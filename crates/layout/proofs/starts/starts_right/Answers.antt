@@ -1,6 +1,5 @@
 use native.Mathlib.Omega.{arith}
 use Rattle.layout.proofs.LineLaws.{starts_none, starts-goal, starts-not, starts-next, starts-end}
-use borrow.Author.Tests.{not-true, not-false}
 use mathlib.Core.Path.{refl, sym, ◌∙◌}
 use Rattle.layout.proofs.starts.starts_right.Goals as goal
 
@@ -10,7 +9,7 @@ returns-then-s-after c =
 
 pub returns-then-not-all_start : goal.returns-then-not-all_start
 returns-then-not-all_start c =
-    sym (starts-not _ _ _ _ c.loop-e.invariant.1.0 c.end_of-after.ensures.0 (omega (arith, c.loop-e.invariant.0)) c.loop-e-test.true c.if-s-after.false (sym c.all_start.ensures ∙ not-true _ c.if-not-all_start.true-raw)) ∙ c.loop-e.invariant.1.1
+    sym (starts-not _ _ _ _ c.loop-e.invariant.1.0 c.end_of-after.ensures.0 (omega (arith, c.loop-e.invariant.0)) c.loop-e-test.true c.if-s-after.false (sym c.all_start.ensures ∙ c.if-not-all_start.true)) ∙ c.loop-e.invariant.1.1
 
 pub loop-e-smaller : goal.loop-e-smaller
 loop-e-smaller c =
@@ -18,7 +17,7 @@ loop-e-smaller c =
 
 pub loop-e-preserved : goal.loop-e-preserved
 loop-e-preserved c =
-    (c.end_of-after.ensures.1, (c.end_of-after.ensures.0, starts-next _ _ _ _ c.loop-e.invariant.1.0 c.end_of-after.ensures.0 (omega (arith, c.loop-e.invariant.0)) c.loop-e-test.true c.if-s-after.false (sym c.all_start.ensures ∙ not-false _ c.if-not-all_start.false-raw) ∙ c.loop-e.invariant.1.1))
+    (c.end_of-after.ensures.1, (c.end_of-after.ensures.0, starts-next _ _ _ _ c.loop-e.invariant.1.0 c.end_of-after.ensures.0 (omega (arith, c.loop-e.invariant.0)) c.loop-e-test.true c.if-s-after.false (sym c.all_start.ensures ∙ c.if-not-all_start.false) ∙ c.loop-e.invariant.1.1))
 
 pub returns : goal.returns
 returns c =
