@@ -1,4 +1,4 @@
-use mathlib.Core.Path.{refl, ◌∙◌}
+use mathlib.Core.Path.{◌∙◌}
 use native.Mathlib.Omega.{arith}
 use Rattle.truth.proofs.BlockLaws.{block-fits}
 use Rattle.truth.proofs.Redoing.{redone-next}
@@ -15,9 +15,3 @@ loop-i-preserved c =
 
 pub returns : goal.returns
 returns c = record { room = omega arith; words = λ j h. c.loop-i.invariant.1 j (omega arith) }
-
-pub loop-i-init : goal.loop-i-init
-loop-i-init c = (refl, λ j h. absurd (omega arith))
-
-pub shape_of-tw : goal.shape_of-tw
-shape_of-tw c = c.loop-i.invariant.0
