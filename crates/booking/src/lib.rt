@@ -63,6 +63,7 @@ fn book_in(
     ensures { store.new ≡ tables_by w (λ r t. elem t (Survivors ms.now ln.now (start_list w base.now names.now (length ln.now) r))) namings ++ drop (namings * w) store.old }
 {
     let mut n = naming::first(namings);
+    // By hand: the naming in hand moves on by `naming::advanced`, a rule of the project.
     while n.number < n.count {
         let r = n.number;
         let at = r as usize * w;

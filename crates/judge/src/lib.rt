@@ -113,7 +113,7 @@ fn judge_in(
     ensures { Judged (goals_at ms.now ln.now w base.now names.now goal) namings result }
 {
     let mut n = naming::first(namings);
-    // By hand, as everywhere that goes from naming to naming: the naming in hand moves on by `naming::advanced`, a rule of the project, and no range stands for it.
+    // By hand: the naming in hand moves on by `naming::advanced`, a rule of the project.
     while n.number < n.count {
         let r = n.number;
         let found = try_naming(
