@@ -7,18 +7,17 @@ ghost use Rattle.judge.specs.Judged.{goals_at, Places, Judged};
 ghost use Rattle.pages.specs.Later.{later_of};
 ghost use Rattle.pages.specs.Pages.{Paged, row_at};
 
-use goal::Found;
 use judge::Verdict;
 use naming::Naming;
 
 // The verdict on namings 0 to r, from that on those before r and what was found for r.
-fn later(v: Verdict, r: u64, found: Found) -> Verdict
+fn later(v: Verdict, r: u64, found: Option<usize>) -> Verdict
     ensures { result ≡ later_of v r found }
 {
     if let Verdict::Open { naming, least } = v {
         return Verdict::Open { naming, least };
     }
-    if let Found::At(t) = found {
+    if let Some(t) = found {
         return Verdict::Open {
             naming: r,
             least: t,
@@ -64,6 +63,7 @@ pub fn fill_page(
     let mut v = before;
     let mut k = used;
     let mut n = start;
+    // By hand: the naming in hand moves on by `naming::advanced`, a rule of the project.
     while n.number < n.count {
         let r = n.number;
         let c = judge::fill_table(

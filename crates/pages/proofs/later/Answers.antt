@@ -6,9 +6,9 @@ pub returns-in-Open : goal.returns-in-Open
 returns-in-Open c =
     later-open c.args.r c.args.found c.in-Open.is
 
-pub returns-in-At : goal.returns-in-At
-returns-in-At c =
-    later-found c.args.r c.args.found c.in_default.is c.in-At.is
+pub returns-in-Some : goal.returns-in-Some
+returns-in-Some c =
+    later-found c.args.r c.args.found c.in_default.is c.in-Some.is
 
 pub returns : goal.returns
 returns c =
