@@ -17,7 +17,7 @@ use Rattle.naming.specs.declared.Naming.{Naming}
 use Rattle.naming.proofs.NextLaws.{next-count, next-number}
 use Rattle.judge.specs.Judged.{Judged, opens, closes}
 use Rattle.judge.specs.declared.Verdict.{Verdict}
-use Rattle.judge.specs.declared.Verdict.TheVariants.{Open, Unsatisfiable}
+use Rattle.judge.specs.declared.Verdict.TheVariants.{Unsatisfiable}
 use Rattle.lines.specs.Lines.{naming_line}
 use Rattle.buffer.specs.Put.{Put}
 use Rattle.buffer.proofs.PutLaws.{put_front}
@@ -26,19 +26,6 @@ use Rattle.pages.specs.Pages.{Paged, row_at, rows}
 use Rattle.pages.proofs.RowLaws.{rows_next, rows_none}
 
 -- ---- the verdict on one naming more
-
-module _ {v : Verdict} (r : ℕ) (f : Option ℕ) where
-  pub later-open : {q t : ℕ} → v ≡ Open q t → Open q t ≡ later_of v r f
-  unfolding later_of
-  later-open e = ap (λ x. later_of x r f) (sym e)
-
-  pub later-found : {t : ℕ} → v ≡ Unsatisfiable → f ≡ Some t → Open r t ≡ later_of v r f
-  unfolding later_of
-  later-found e i = ap₂ (λ x y. later_of x r y) (sym e) (sym i)
-
-  pub later-none : v ≡ Unsatisfiable → f ≡ None → Unsatisfiable ≡ later_of v r f
-  unfolding later_of
-  later-none e i = ap₂ (λ x y. later_of x r y) (sym e) (sym i)
 
 none_first : (l : List ℕ) → None ≡ first_of l → l ≡ []
 unfolding first_of

@@ -11,19 +11,14 @@ use judge::Verdict;
 use naming::Naming;
 
 // The verdict on namings 0 to r, from that on those before r and what was found for r.
+#[tactic(auto, unfolding(crate::specs::Later::later_of))]
 fn later(v: Verdict, r: u64, found: Option<usize>) -> Verdict
     ensures { result ≡ later_of v r found }
 {
-    if let Verdict::Open { naming, least } = v {
-        return Verdict::Open { naming, least };
+    match (v, found) {
+        (Verdict::Unsatisfiable, Some(least)) => Verdict::Open { naming: r, least },
+        _ => v,
     }
-    if let Some(t) = found {
-        return Verdict::Open {
-            naming: r,
-            least: t,
-        };
-    }
-    Verdict::Unsatisfiable
 }
 
 // The naming in hand after a page, how many bytes of the buffer are used, and the verdict on the namings before the one in hand.
