@@ -47,6 +47,7 @@ fn book_in(
     ensures { store.new ≡ tables_by sheet.now.words.w (λ r t. elem t (survivors_of sheet.now r)) namings ++ drop (namings * sheet.now.words.w) store.old }
 {
     let mut n = naming::first(namings);
+    // By hand: the naming in hand moves on by `naming::advanced`, a rule of the project.
     while n.number < n.count {
         let r = n.number;
         let at = r as usize * sheet.words.w;

@@ -96,7 +96,7 @@ fn judge_in(
     ensures { Judged (goals_of sheet.now goal) namings result }
 {
     let mut n = naming::first(namings);
-    // By hand, as everywhere that goes from naming to naming: the naming in hand moves on by `naming::advanced`, a rule of the project, and no range stands for it.
+    // By hand: the naming in hand moves on by `naming::advanced`, a rule of the project.
     while n.number < n.count {
         let r = n.number;
         let found = try_naming(sheet, goal, r, first, second, copy, todo, v, rest);
