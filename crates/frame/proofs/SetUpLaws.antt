@@ -15,118 +15,99 @@ use Rattle.sheet.specs.Refusal.{read_refusal}
 use Rattle.sheet.specs.Reading.{values_in}
 use Rattle.sheet.proofs.SizeLaws.{formulas-many, texts-five}
 use Rattle.reader.specs.declared.Reading.{Reading}
-use Rattle.reader.specs.Reader.{Says, members, number_of}
+use Rattle.reader.specs.Reader.{Says, members}
 use Rattle.limits.specs.declared.Limits.{Limits}
-use Rattle.limits.specs.Limits.{ReadUnder, refusal_under}
+use Rattle.std.specs.Prelude.{Ok}
+use Rattle.limits.specs.Limits.{refusal_under}
 use Rattle.limits.proofs.LimitLaws.{accepted-closure, accepted-lean, accepted-read, accepted-right}
 use Rattle.reader.proofs.ReadLaws.{words-within, take_within}
 use Rattle.prepare.specs.Prepared.{kinds_of, lean_of, table_of}
 use Rattle.frame.specs.Framed.{FramedAs, Frames, Given}
-use Rattle.frame.specs.SetUp.{Accepts, SetUp, nothing_by}
+use Rattle.frame.specs.SetUp.{SetUp}
 use Rattle.frame.specs.declared.Frame.{Frame}
-use Rattle.frame.specs.declared.Setup.{Setup}
 
-module _ {l : Limits} {s : List ℕ} {r : Reading} (x : ReadUnder l s r) {k : ℕ} (e : k ≡ number_of r.refusal) where
-  pub setup-refused : {u : Setup} → (k ≡ 0 → ⊥) → u ≡ nothing_by k → SetUp l s u
-  setup-refused h i = record { is = ap (λ q. q.refusal) i ∙ e ∙ x.is; accepts = λ z. absurd (h (e ∙ x.is ∙ z)) }
+module _ (l : Limits) {s : List ℕ} {r : Reading} (x : (refusal_under l s ≡ 0) × Says s r) where
+  pub right : read_refusal s ≡ 0
+  right = accepted-read l s x.0
 
-  module _ (none : k ≡ 0) where
-    pub zero_is : refusal_under l s ≡ 0
-    zero_is = sym x.is ∙ sym e ∙ none
+  pub count-within : r.count ≤ length r.members
+  count-within = x.1.tabled.room
 
-    pub says : Says s r
-    says = x.accepted zero_is
+  width_is : length (lean_of r) ≡ r.width
+  width_is = sym (length-map (lean_of r) _) ∙ ap length x.1.lean-are ∙ sym x.1.lean-many
 
-    pub right : read_refusal s ≡ 0
-    right = accepted-read l s zero_is
+  pub width-within : r.width ≤ length r.lean
+  width-within = take_within r.width r.lean width_is
 
-    pub count-within : r.count ≤ length r.members
-    count-within = says.tabled.room
+  pub symbols-within : length r.words ≡ 8 → length r.kinds ≡ 8 → r.symbols ≤ length r.kinds
+  symbols-within a b = let h = words-within x.1 in omega arith
 
-    width_is : length (lean_of r) ≡ r.width
-    width_is = sym (length-map (lean_of r) _) ∙ ap length says.lean-are ∙ sym says.lean-many
+  pub formulas-five : r.formulas ≤ 5
+  formulas-five = let a = texts-five s right in let b = formulas-many s right in let c = x.1.many in omega arith
 
-    pub width-within : r.width ≤ length r.lean
-    width-within = take_within r.width r.lean width_is
+  pub formulas-within : length r.places ≡ 5 → r.formulas ≤ length r.places
+  formulas-within a = let b = formulas-five in omega arith
 
-    pub symbols-within : length r.words ≡ 8 → length r.kinds ≡ 8 → r.symbols ≤ length r.kinds
-    symbols-within a b = let h = words-within says in omega arith
+  lean-few : r.width ≤ 12
+  lean-few = let a = x.1.lean-many in let b = accepted-lean l s x.0 in let c = (accepted-right l s x.0).lean-most in omega arith
 
-    pub formulas-five : r.formulas ≤ 5
-    formulas-five = let a = texts-five s right in let b = formulas-many s right in let c = says.many in omega arith
+  given : length r.places ≡ 5 → Given (table_of r) (lean_of r) (kinds_of r) (take r.formulas r.places) s r
+  given a = record { says = x.1; read = right; table_is = refl; lean-is = refl; kinds-are = refl; places-are = refl; many = length-take-le r.formulas r.places (formulas-within a) }
 
-    pub formulas-within : length r.places ≡ 5 → r.formulas ≤ length r.places
-    formulas-within a = let b = formulas-five in omega arith
+  -- the closure's members and the values that do not occur
+  table-few : r.count ≤ 136
+  table-few =
+      let a = accepted-closure l s x.0 in
+      let g = (accepted-right l s x.0).closure-most in
+      let b = x.1.tabled.count in
+      let c = with-length (members s) (values_in s) in
+      let d = kept-few (λ k. eqb (get_or (kinds s) k 0) 4) (length (kinds s)) in
+      let e = right-kinds s right in
+      let f = (sheet-spellings s).few in
+      omega arith
 
-    lean-few : r.width ≤ 12
-    lean-few = let a = says.lean-many in let b = accepted-lean l s zero_is in let c = (accepted-right l s zero_is).lean-most in omega arith
+  pub frame-asked : {globals names values : List ℕ} → length r.places ≡ 5 → length globals ≡ 8 → length names ≡ 12 → length values ≡ 12
+      → Frames (table_of r) (lean_of r) (kinds_of r) (take r.formulas r.places) globals names values
+  frame-asked a b c d = record {
+    sheet = s;
+    reading = r;
+    given = given a;
+    few = formulas-five;
+    narrow = lean-few;
+    small = table-few;
+    globals-room = omega arith;
+    names-room = omega arith;
+    values-room = omega arith;
+  }
 
-    given : length r.places ≡ 5 → Given (table_of r) (lean_of r) (kinds_of r) (take r.formulas r.places) s r
-    given a = record { says = says; read = right; table_is = refl; lean-is = refl; kinds-are = refl; places-are = refl; many = length-take-le r.formulas r.places (formulas-within a) }
-
-    -- the closure's members and the values that do not occur
-    table-few : r.count ≤ 136
-    table-few =
-        let a = accepted-closure l s zero_is in
-        let g = (accepted-right l s zero_is).closure-most in
-        let b = says.tabled.count in
-        let c = with-length (members s) (values_in s) in
-        let d = kept-few (λ k. eqb (get_or (kinds s) k 0) 4) (length (kinds s)) in
-        let e = right-kinds s right in
-        let f = (sheet-spellings s).few in
-        omega arith
-
-    pub frame-asked : {globals names values : List ℕ} → length r.places ≡ 5 → length globals ≡ 8 → length names ≡ 12 → length values ≡ 12
-        → Frames (table_of r) (lean_of r) (kinds_of r) (take r.formulas r.places) globals names values
-    frame-asked a b c d = record {
-      sheet = s;
-      reading = r;
-      given = given a;
-      few = formulas-five;
-      narrow = lean-few;
-      small = table-few;
-      globals-room = omega arith;
-      names-room = omega arith;
-      values-room = omega arith;
-    }
-
-    pub setup-accepted : {globals' names' values' : List ℕ} {f : Frame} → length r.places ≡ 5
-        → FramedAs (table_of r) (lean_of r) (kinds_of r) (take r.formulas r.places) globals' names' values' f → length globals' ≡ 8 → length names' ≡ 12 → length values' ≡ 12
-        → SetUp l s (record {
-          refusal = 0;
-          count = r.count;
-          members = r.members;
-          width = r.width;
-          lean = r.lean;
-          globals = f.globals;
-          everywhere = globals';
-          names = f.names;
-          named = names';
-          values = f.values;
-          valued = values';
-          words = f.words;
-          goal = f.goal;
-          namings = f.namings;
-        })
-    setup-accepted {globals'} {names'} {values'} {f} a y b c d = record {
-      is = sym zero_is;
-      accepts = λ z. (let x = y s r (given a) in
-          let m = x.few-globals in
-          let n = x.few-places in
-          record {
-            framed = x;
-            members-within = count-within;
-            lean-within = width-within;
-            globals-within = omega arith;
-            names-within = omega arith;
-            values-within = omega arith;
-          });
-    }
-
--- the set-up of a sheet that is not refused
-module _ {l : Limits} {s : List ℕ} {u : Setup} (x : SetUp l s u) (z : u.refusal ≡ 0) where
-  pub not-refused : refusal_under l s ≡ 0
-  not-refused = sym x.is ∙ z
-
-  pub accepts-by : Accepts s u
-  accepts-by = x.accepts not-refused
+  pub setup-accepted : {globals' names' values' : List ℕ} {f : Frame} → length r.places ≡ 5
+      → FramedAs (table_of r) (lean_of r) (kinds_of r) (take r.formulas r.places) globals' names' values' f → length globals' ≡ 8 → length names' ≡ 12 → length values' ≡ 12
+      → SetUp l s (Ok (record {
+        count = r.count;
+        members = r.members;
+        width = r.width;
+        lean = r.lean;
+        globals = f.globals;
+        everywhere = globals';
+        names = f.names;
+        named = names';
+        values = f.values;
+        valued = values';
+        words = f.words;
+        goal = f.goal;
+        namings = f.namings;
+      }))
+  setup-accepted {globals'} {names'} {values'} {f} a y b c d = (
+    x.0,
+    (let z = y s r (given a) in
+        let m = z.few-globals in
+        let n = z.few-places in
+        record {
+          framed = z;
+          members-within = count-within;
+          lean-within = width-within;
+          globals-within = omega arith;
+          names-within = omega arith;
+          values-within = omega arith;
+        }),
+  )

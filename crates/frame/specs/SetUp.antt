@@ -1,32 +1,15 @@
 -- What setting up a sheet gives: its refusal, or a frame with all that is read off the sheet. Assumes nothing.
-use Rattle.std.specs.Prelude.{◌≡◌, List, ℕ, ◌≤◌, length, replicate, take}
+use Rattle.std.specs.Prelude.{◌≡◌, List, ℕ, ◌≤◌, length, take, Result, Ok, Err}
 use Rattle.ctl.specs.Positive.{positive}
 use Rattle.sheet.specs.Reading.{formulas, goal_of}
+use Rattle.refusal.specs.declared.Refusal.{Refusal}
+use Rattle.refusal.specs.Number.{number_of}
 use Rattle.limits.specs.declared.Limits.{Limits}
 use Rattle.limits.specs.Limits.{refusal_under}
 use Rattle.prepare.specs.Prepared.{tableau_in}
 use Rattle.frame.specs.Framed.{Framed}
 use Rattle.frame.specs.declared.Frame.{Frame}
 use Rattle.frame.specs.declared.Setup.{Setup}
-
--- a refusal, and nothing else
-abbrev pub nothing_by : ℕ → Setup
-nothing_by k = record {
-  refusal = k;
-  count = 0;
-  members = replicate 136 0;
-  width = 0;
-  lean = replicate 12 0;
-  globals = 0;
-  everywhere = replicate 8 0;
-  names = 0;
-  named = replicate 12 0;
-  values = 0;
-  valued = replicate 12 0;
-  words = 0;
-  goal = 0;
-  namings = 0;
-}
 
 -- the parts of a set-up
 abbrev pub members_in : Setup → List ℕ
@@ -57,6 +40,6 @@ pub record Accepts (s : List ℕ) (r : Setup) : Type 0 where
   pub values-within : r.values ≤ length r.valued
 
 -- that of any sheet under any limits
-pub record SetUp (l : Limits) (s : List ℕ) (r : Setup) : Type 0 where
-  pub is : r.refusal ≡ refusal_under l s
-  pub accepts : refusal_under l s ≡ 0 → Accepts s r
+abbrev pub SetUp : Limits → List ℕ → Result Setup Refusal → Type 0
+SetUp l s (Ok u) = (refusal_under l s ≡ 0) × Accepts s u
+SetUp l s (Err e) = refusal_under l s ≡ number_of e

@@ -6,9 +6,10 @@ ghost use Rattle.std.specs.Prelude.{◌≡◌, true, List, ℕ, ◌+◌, ◌-◌
 ghost use Rattle.tableau.specs.Families.{Ready};
 ghost use Rattle.start.specs.Starts.{Based, in_base, Named};
 ghost use Rattle.frame.specs.Framed.{Frames, FramedAs, Sound, Stores};
-ghost use Rattle.frame.specs.SetUp.{Accepts, SetUp, globals_in, lean_in, members_in, names_in, nothing_by, values_in};
+ghost use Rattle.frame.specs.SetUp.{Accepts, SetUp, globals_in, lean_in, members_in, names_in, values_in};
 
 use limits::Limits;
+use refusal::Refusal;
 
 // The first n of some places, each below 256, at the beginning of a store.
 fn copy_places(places: &[usize], n: usize, to: &mut [u8])
@@ -76,10 +77,9 @@ fn frame_of(
 }
 
 // What judging a sheet goes by: its closure with the values that do not occur, and its lean, as the reader has them, the places of globals,
-// names and values, and the frame's numbers; or its refusal, with nothing else.
+// names and values, and the frame's numbers.
 #[derive(Clone, Copy)]
 pub struct Setup {
-    pub refusal: u8,
     pub count: usize,
     pub members: [u64; 136],
     pub width: usize,
@@ -95,37 +95,11 @@ pub struct Setup {
     pub namings: u64,
 }
 
-fn nothing(k: u8) -> Setup
-    ensures { result ≡ nothing_by k }
-{
-    Setup {
-        refusal: k,
-        count: 0,
-        members: [0u64; 136],
-        width: 0,
-        lean: [0u8; 12],
-        globals: 0,
-        everywhere: [0u8; 8],
-        names: 0,
-        named: [0u8; 12],
-        values: 0,
-        valued: [0u8; 12],
-        words: 0,
-        goal: 0,
-        namings: 0,
-    }
-}
-
 // Any bytes under any limits: a sheet's set-up, or its refusal.
-pub fn set_up(l: Limits, s: &[u8]) -> Setup
+pub fn set_up(l: Limits, s: &[u8]) -> Result<Setup, Refusal>
     ensures { SetUp l s.now result }
 {
-    let reading = limits::read(l, s);
-    let refusal = reading.refusal;
-    let k = reader::number(refusal);
-    if k != 0 {
-        return nothing(k);
-    }
+    let reading = limits::read(l, s)?;
     let members = reading.members;
     let lean = reading.lean;
     let kinds = reading.kinds;
@@ -146,8 +120,7 @@ pub fn set_up(l: Limits, s: &[u8]) -> Setup
         &mut named,
         &mut valued,
     );
-    Setup {
-        refusal: 0,
+    Ok(Setup {
         count,
         members,
         width,
@@ -161,7 +134,7 @@ pub fn set_up(l: Limits, s: &[u8]) -> Setup
         words: f.words,
         goal: f.goal,
         namings: f.namings,
-    }
+    })
 }
 
 // Whether a table of n members over w words is a small one: stores for 72 members over 4 words are enough for it. Most sheets are, and clearing larger stores would cost more than judging them.

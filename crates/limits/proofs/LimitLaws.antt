@@ -1,20 +1,20 @@
 -- Limits in their range, sheets under them, and that a sheet which is accepted stays so under wider ones. Assumes nothing.
-use mathlib.Core.Path.{◌≡◌, refl, sym, ap, ◌∙◌, subst}
-use mathlib.Core.Bool.{Bool, true, false, ◌||◌, cond}
+use mathlib.Core.Path.{◌≡◌, refl, sym, ap, ◌∙◌}
+use mathlib.Core.Bool.{Bool, true, false, cond}
 use mathlib.Core.List.{List}
 use mathlib.Core.Logic.{◌⊎◌, inl, inr}
 use Prim.Native.Nat.{ℕ, ◌≤◌, ◌<◌}
 use native.Mathlib.Omega.{arith}
 use lib.Dec.{ltb}
 use lib.ListN.{length}
-use borrow.Author.Tests.{ltb-false, lt-ltb, le-ltb}
-use Rattle.ctl.proofs.BoolLaws.{or_left, or_right}
+use borrow.Author.Tests.{ltb-false}
 use Rattle.wordset.proofs.BelowLaws.{lt-or-le}
 use Rattle.layout.proofs.UnlinesLaws.{or-none}
 use Rattle.sheet.specs.Refusal.{read_refusal}
 use Rattle.reader.specs.declared.Reading.{Reading}
-use Rattle.reader.specs.declared.Refusal.TheVariants as Refusal
-use Rattle.reader.specs.Reader.{ReadIs, blank, members, places, refusal_of, refusal_within}
+use Rattle.refusal.specs.declared.Refusal.{Refusal}
+use Rattle.std.specs.Prelude.{Result, Ok, Err}
+use Rattle.reader.specs.Reader.{ReadIs, members, places, refusal_of, refusal_within}
 use Rattle.reader.proofs.NumberLaws.{within-nine, within_none, within-ten, within-zero}
 use Rattle.limits.specs.declared.Limits.{Limits}
 use Rattle.limits.specs.Limits.{ReadUnder, Wider, limits_wrong, refusal_under, usual}
@@ -34,28 +34,6 @@ right-limits l e =
     let c = or-none (ltb l.closure 16) (ltb 128 l.closure) b.1 in
     record { lean-some = ltb-false _ _ a.0; lean-most = ltb-false _ _ b.0; closure-some = ltb-false _ _ c.0; closure-most = ltb-false _ _ c.1 }
 
--- ---- what the tests say, one after the other
-
-skip : (a b : Bool) → a ≡ false → (a || b) ≡ b
-skip a b e = ap (λ c. c || b) e
-
-module _ (l : Limits) where
-  pub wrong-1 : l.lean < 1 → true ≡ limits_wrong l
-  unfolding limits_wrong
-  wrong-1 h = sym (or_left _ _ (lt-ltb l.lean 1 h))
-
-  pub wrong-2 : 12 < l.lean → true ≡ limits_wrong l
-  unfolding limits_wrong
-  wrong-2 h = sym (or_right (ltb l.lean 1) _ (or_left _ _ (lt-ltb 12 l.lean h)))
-
-  pub wrong-3 : l.closure < 16 → true ≡ limits_wrong l
-  unfolding limits_wrong
-  wrong-3 h = sym (or_right (ltb l.lean 1) _ (or_right (ltb 12 l.lean) _ (or_left _ _ (lt-ltb l.closure 16 h))))
-
-  pub wrong-4 : 1 ≤ l.lean → l.lean ≤ 12 → 16 ≤ l.closure → ltb 128 l.closure ≡ limits_wrong l
-  unfolding limits_wrong
-  wrong-4 a b c = sym (skip (ltb l.lean 1) _ (le-ltb l.lean 1 a) ∙ skip (ltb 12 l.lean) _ (le-ltb 12 l.lean b) ∙ skip (ltb l.closure 16) _ (le-ltb l.closure 16 c))
-
 -- without limits the refusal is that of document 01
 pub under-usual : (s : List ℕ) → refusal_under usual s ≡ refusal_of s
 unfolding refusal_under limits_wrong
@@ -72,11 +50,12 @@ module _ (l : Limits) (s : List ℕ) where
 
   -- ---- reading
 
-  pub read-wrong : {r : Reading} → limits_wrong l ≡ true → r ≡ blank Refusal.Limits → ReadUnder l s r
-  read-wrong {r} e b = subst (ReadUnder l s) (sym b) (record { is = sym (under-wrong e); accepted = λ z. (let y : ◌≡◌ {A = ℕ} 0 19 = sym z ∙ under-wrong e in absurd (omega arith)); refused = λ n. refl })
+  pub read-wrong : limits_wrong l ≡ true → ReadUnder l s (Err Refusal.Limits)
+  read-wrong e = under-wrong e
 
-  pub read_right : {r : Reading} → limits_wrong l ≡ false → ReadIs l.closure l.lean s r → ReadUnder l s r
-  read_right {r} e x = record { is = x.is ∙ sym (under-right l s e); accepted = λ z. x.accepted (sym (under-right l s e) ∙ z); refused = λ n. x.refused (λ z. n (under-right l s e ∙ z)) }
+  pub read_right : (r : Result Reading Refusal) → limits_wrong l ≡ false → ReadIs l.closure l.lean s r → ReadUnder l s r
+  read_right (Ok r) e x = (under-right l s e ∙ x.0, x.1)
+  read_right (Err k) e x = under-right l s e ∙ x
 
   -- ---- a sheet that is accepted
 

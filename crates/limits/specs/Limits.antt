@@ -1,7 +1,9 @@
 -- The limits that a caller gives, and what a sheet comes to under them. Assumes nothing.
-use Rattle.std.specs.Prelude.{◌≡◌, Bool, false, ◌||◌, cond, List, ℕ, ◌≤◌, ltb}
+use Rattle.std.specs.Prelude.{◌≡◌, Bool, false, ◌||◌, cond, List, ℕ, ◌≤◌, ltb, Result, Ok, Err}
 use Rattle.reader.specs.declared.Reading.{Reading}
-use Rattle.reader.specs.Reader.{Says, blank, number_of, refusal_within}
+use Rattle.reader.specs.Reader.{Says, refusal_within}
+use Rattle.refusal.specs.declared.Refusal.{Refusal}
+use Rattle.refusal.specs.Number.{number_of}
 use Rattle.limits.specs.declared.Limits.{Limits}
 
 -- document 01's: a lean of at most 8 places, a closure of at most 64 members. They hold where the caller gives none
@@ -18,10 +20,9 @@ unfolding limits_wrong
 refusal_under l s = cond (limits_wrong l) 19 (refusal_within l.closure l.lean s)
 
 -- what reading a sheet answers
-pub record ReadUnder (l : Limits) (s : List ℕ) (r : Reading) : Type 0 where
-  pub is : number_of r.refusal ≡ refusal_under l s
-  pub accepted : refusal_under l s ≡ 0 → Says s r
-  pub refused : (refusal_under l s ≡ 0 → ⊥) → r ≡ blank r.refusal
+abbrev pub ReadUnder : Limits → List ℕ → Result Reading Refusal → Type 0
+ReadUnder l s (Ok r) = (refusal_under l s ≡ 0) × Says s r
+ReadUnder l s (Err e) = refusal_under l s ≡ number_of e
 
 -- limits m allow at least what limits l do, and are in their range
 pub record Wider (l m : Limits) : Type 0 where

@@ -1,4 +1,4 @@
--- The numbers of refusals, and which number a sheet has. Assumes nothing.
+-- Which number a sheet has. Assumes nothing.
 use mathlib.Core.Path.{◌≡◌, refl, sym, ap, ap₂, ◌∙◌}
 use mathlib.Core.Bool.{Bool, true, false, cond}
 use mathlib.Core.List.{List, [], ◌∷◌}
@@ -9,47 +9,7 @@ use lib.Dec.{eqb, ltb}
 use borrow.Author.Tests.{eq-eqb, ne_eqb, lt-ltb, le-ltb}
 use Rattle.sheet.specs.Refusal.{first_of, conditions, read_refusal}
 use Rattle.sheet.proofs.RefusalLaws.{first-append}
-use Rattle.reader.specs.declared.Refusal.TheVariants.{Lean}
-use Rattle.reader.specs.Reader.{number_of, refusal_by, members, places, refusal_within}
-
-pub number_by : (k : ℕ) → k ≤ 10 → number_of (refusal_by k) ≡ k
-number_by zero h = refl
-number_by (suc zero) h = refl
-number_by (suc (suc zero)) h = refl
-number_by (suc (suc (suc zero))) h = refl
-number_by (suc (suc (suc (suc zero)))) h = refl
-number_by (suc (suc (suc (suc (suc zero))))) h = refl
-number_by (suc (suc (suc (suc (suc (suc zero)))))) h = refl
-number_by (suc (suc (suc (suc (suc (suc (suc zero))))))) h = refl
-number_by (suc (suc (suc (suc (suc (suc (suc (suc zero)))))))) h = refl
-number_by (suc (suc (suc (suc (suc (suc (suc (suc (suc zero))))))))) h = refl
-number_by (suc (suc (suc (suc (suc (suc (suc (suc (suc (suc zero)))))))))) h = refl
-number_by (suc (suc (suc (suc (suc (suc (suc (suc (suc (suc (suc k))))))))))) h = absurd (omega arith)
-
-refusal-last : (k : ℕ) → 10 ≤ k → Lean ≡ refusal_by k
-refusal-last zero h = absurd (omega arith)
-refusal-last (suc zero) h = absurd (omega arith)
-refusal-last (suc (suc zero)) h = absurd (omega arith)
-refusal-last (suc (suc (suc zero))) h = absurd (omega arith)
-refusal-last (suc (suc (suc (suc zero)))) h = absurd (omega arith)
-refusal-last (suc (suc (suc (suc (suc zero))))) h = absurd (omega arith)
-refusal-last (suc (suc (suc (suc (suc (suc zero)))))) h = absurd (omega arith)
-refusal-last (suc (suc (suc (suc (suc (suc (suc zero))))))) h = absurd (omega arith)
-refusal-last (suc (suc (suc (suc (suc (suc (suc (suc zero)))))))) h = absurd (omega arith)
-refusal-last (suc (suc (suc (suc (suc (suc (suc (suc (suc zero))))))))) h = absurd (omega arith)
-refusal-last (suc (suc (suc (suc (suc (suc (suc (suc (suc (suc k)))))))))) h = refl
-
--- none of the first n numbers, as a `match` tells it
-abbrev Missed : ℕ → ℕ → Type 0
-Missed zero k = Unit {0}
-Missed (suc n) k = Missed n k × (k ≡ n → ⊥)
-
-missed-le : (n k : ℕ) → Missed n k → n ≤ k
-missed-le zero k m = omega arith
-missed-le (suc n) k m = let h = missed-le n k m.0 in let d = m.1 in omega arith
-
-pub refusal-else : (k : ℕ) → Missed 10 k → Lean ≡ refusal_by k
-refusal-else k m = refusal-last k (missed-le 10 k m)
+use Rattle.reader.specs.Reader.{members, places, refusal_within}
 
 -- a number of so many conditions
 first-lt : (k : ℕ) (bs : List Bool) → 0 < k → first_of k bs < k + length bs
@@ -57,11 +17,11 @@ first-lt k [] h = omega arith
 first-lt k (true ∷ bs) h = omega arith
 first-lt k (false ∷ bs) h = let i = first-lt (suc k) bs (omega arith) in omega arith
 
-module _ (most wide : ℕ) (s : List ℕ) where
-  pub read-eight : read_refusal s ≤ 8
-  unfolding read_refusal conditions
-  read-eight = let h = first-lt 1 (conditions s) (omega arith) in omega arith
+pub read-eight : (s : List ℕ) → read_refusal s ≤ 8
+unfolding read_refusal conditions
+read-eight s = let h = first-lt 1 (conditions s) (omega arith) in omega arith
 
+module _ (most wide : ℕ) (s : List ℕ) where
   both : refusal_within most wide s ≡ cond (eqb (read_refusal s) 0) (first_of 9 (ltb most (length (members s)) ∷ ltb wide (length (places s)) ∷ [])) (read_refusal s)
   unfolding refusal_within read_refusal conditions
   both = first-append 1 (conditions s) (ltb most (length (members s)) ∷ ltb wide (length (places s)) ∷ []) (omega arith)

@@ -1,10 +1,11 @@
 -- From what the reader of sheets, the closing and the lean's finding promise to what the whole reading does. Assumes nothing.
-use mathlib.Core.Path.{◌≡◌, refl, sym, ap, ◌∙◌, subst}
+use mathlib.Core.Path.{◌≡◌, sym, ap, ◌∙◌, subst}
 use mathlib.Core.Logic.{◌⊎◌, inl, inr}
 use mathlib.Core.List.{List, [], ◌∷◌, map}
 use Prim.Native.Nat.{ℕ, zero, suc, ◌+◌, ◌-◌, ◌^◌, ◌≤◌, ◌<◌}
 use native.Mathlib.Omega.{arith}
 use lib.ListN.{length, get_or, take, length-map}
+use Rattle.std.specs.Prelude.{Ok}
 use lib.Seq.{get_or-take, length-take-le}
 use Rattle.ctl.specs.Lists.{◌∈◌}
 use Rattle.ctl.specs.Formula.{Form, lit}
@@ -41,19 +42,10 @@ use Rattle.closure.specs.declared.Closed.TheVariants.{Within, Beyond}
 use Rattle.lean.specs.declared.Gathered.{Gathered}
 use Rattle.lean.specs.declared.Gathered.TheVariants.{Count, Crowded}
 use Rattle.reader.specs.declared.Reading.{Reading}
-use Rattle.reader.specs.declared.Refusal.TheVariants.{Accepted}
-use Rattle.reader.specs.Reader.{number_of, refusal_by, forms, members, tabled, places, refusal_within, blank, Says, ReadIs, RootsAre}
+use Rattle.reader.specs.Reader.{forms, members, tabled, places, refusal_within, Says, ReadIs, RootsAre}
 use Rattle.spelling.specs.Spelling.{word}
 use Rattle.reader.proofs.SpellLaws.{spell-line}
-use Rattle.reader.proofs.NumberLaws.{number_by, read-eight, within-read, within-nine, within-ten, within_none}
-
--- a refusal by the number k
-refused-is : {most wide k : ℕ} {s : List ℕ} {r : Reading} → k ≤ 10 → (k ≡ 0 → ⊥) → refusal_within most wide s ≡ k → r ≡ blank (refusal_by k) → ReadIs most wide s r
-refused-is {k = k} h n e b = record {
-  is = ap (λ q. number_of q.refusal) b ∙ number_by k h ∙ sym e;
-  accepted = λ z. absurd (n (sym e ∙ z));
-  refused = λ m. subst (λ q. q ≡ blank q.refusal) (sym b) refl;
-}
+use Rattle.reader.proofs.NumberLaws.{read-eight, within-read, within-nine, within-ten, within_none}
 
 pub take_within : (n : ℕ) (xs : List ℕ) → length (take n xs) ≡ n → n ≤ length xs
 take_within zero xs e = omega arith
@@ -71,11 +63,11 @@ module _ {s tab' : List ℕ} {h : Sheet} (x : SheetRead s tab' h) where
   number_is : h.refusal ≡ read_refusal s
   number_is = x.is ∙ sheet-refusal s
 
-  pub refused-read : {most wide : ℕ} {r : Reading} → (h.refusal ≡ 0 → ⊥) → r ≡ blank (refusal_by h.refusal) → ReadIs most wide s r
-  refused-read {most} {wide} {r} n b =
-      let k = read-eight most wide s in
-      let e = number_is in
-      refused-is (omega arith) n (within-read most wide s (λ z. n (e ∙ z)) ∙ sym e) b
+  pub some-number : h.refusal ≤ 8
+  some-number = let k = read-eight s in omega (arith, number_is)
+
+  pub refused-read : (most wide : ℕ) {k : ℕ} → (h.refusal ≡ 0 → ⊥) → k ≡ h.refusal → refusal_within most wide s ≡ k
+  refused-read most wide n e = within-read most wide s (λ z. n (number_is ∙ z)) ∙ sym number_is ∙ sym e
 
   module _ (z : h.refusal ≡ 0) (full : (0 < length tab') × (length tab' ≤ 1024)) where
     none : read_refusal s ≡ 0
@@ -143,11 +135,11 @@ module _ {s tab' : List ℕ} {h : Sheet} (x : SheetRead s tab' h) where
       -- ---- the closure was found, or is too large
 
       module _ {most : ℕ} (limit : most ≤ 128) {tab tab₁ places₀ places₁ : List ℕ} (long : length tab ≡ 136) {a : Closed} (found : ClosedAs tab' roots tab tab₁ places₀ places₁ a) where
-        pub refused-beyond : {wide : ℕ} {r : Reading} → a ≡ Beyond → r ≡ blank (refusal_by 9) → ReadIs most wide s r
-        refused-beyond {wide} {r} e b = go (subst (ClosedIs (forms s) tab tab₁ places₀ places₁) e (found (formulas s) given))
+        pub refused-beyond : (wide : ℕ) → a ≡ Beyond → refusal_within most wide s ≡ 9
+        refused-beyond wide e = go (subst (ClosedIs (forms s) tab tab₁ places₀ places₁) e (found (formulas s) given))
           where
-            go : ClosedIs (forms s) tab tab₁ places₀ places₁ Beyond → ReadIs most wide s r
-            go (beyond l n k) = refused-is (omega arith) (λ z. omega arith) (within-nine most wide s none (omega arith)) b
+            go : ClosedIs (forms s) tab tab₁ places₀ places₁ Beyond → refusal_within most wide s ≡ 9
+            go (beyond l n k) = within-nine most wide s none (omega arith)
 
         module _ {m : ℕ} (e : a ≡ Within m) where
           case : ClosedIs (forms s) tab tab₁ places₀ places₁ (Within m)
@@ -171,8 +163,8 @@ module _ {s tab' : List ℕ} {h : Sheet} (x : SheetRead s tab' h) where
               go : ClosedIs (forms s) tab tab₁ places₀ places₁ (Within m) → Placed (forms s) tab₁ places₁ m
               go (within t p n d q) = p
 
-          pub refused-many : {wide : ℕ} {r : Reading} → most < m → r ≡ blank (refusal_by 9) → ReadIs most wide s r
-          refused-many {wide} l b = let c = table_is.count in refused-is (omega arith) (λ z. omega arith) (within-nine most wide s none (omega arith)) b
+          pub refused-many : (wide : ℕ) → most < m → refusal_within most wide s ≡ 9
+          refused-many wide l = let c = table_is.count in within-nine most wide s none (omega arith)
 
           -- ---- the values that do not occur were put behind it
 
@@ -222,11 +214,11 @@ module _ {s tab' : List ℕ} {h : Sheet} (x : SheetRead s tab' h) where
                   lean-case : LeanIs (places s) (take v tab₂) l l' g
                   lean-case = subst (λ k. LeanIs (lean k (tabled s)) (take v tab₂) l l' g) (spell-line s line) (gathered (tabled s) (length (spellings s)) leaning)
 
-                  pub refused-crowded : {r : Reading} → g ≡ Crowded → r ≡ blank (refusal_by 10) → ReadIs most wide s r
-                  refused-crowded {r} q b = go (subst (LeanIs (places s) (take v tab₂) l l') q lean-case)
+                  pub refused-crowded : g ≡ Crowded → refusal_within most wide s ≡ 10
+                  refused-crowded q = go (subst (LeanIs (places s) (take v tab₂) l l') q lean-case)
                     where
-                      go : LeanIs (places s) (take v tab₂) l l' Crowded → ReadIs most wide s r
-                      go (packed k n) = refused-is (omega arith) (λ z. omega arith) (within-ten most wide s none (let c = table_is.count in omega arith) (omega arith)) b
+                      go : LeanIs (places s) (take v tab₂) l l' Crowded → refusal_within most wide s ≡ 10
+                      go (packed k n) = within-ten most wide s none (let c = table_is.count in omega arith) (omega arith)
 
                   module _ {w : ℕ} (q : g ≡ Count w) where
                     width_is : Leaned (places s) (take v tab₂) l l' w
@@ -235,44 +227,22 @@ module _ {s tab' : List ℕ} {h : Sheet} (x : SheetRead s tab' h) where
                         go : LeanIs (places s) (take v tab₂) l l' (Count w) → Leaned (places s) (take v tab₂) l l' w
                         go (leaned x) = x
 
-                    pub refused-wide : {r : Reading} → wide < w → r ≡ blank (refusal_by 10) → ReadIs most wide s r
-                    refused-wide k b = let c = width_is.count in refused-is (omega arith) (λ z. omega arith) (within-ten most wide s none (let d = table_is.count in omega arith) (omega arith)) b
+                    pub refused-wide : wide < w → refusal_within most wide s ≡ 10
+                    refused-wide k = let c = width_is.count in within-ten most wide s none (let d = table_is.count in omega arith) (omega arith)
 
                     pub accepted-is : w ≤ wide
-                        → ReadIs most wide s (record { refusal = Accepted; symbols = h.symbols; words = h.words; kinds = h.kinds; formulas = h.lines; places = places₁; count = v; members = tab₂; width = w; lean = l' })
-                    accepted-is k =
-                        let zero_is : refusal_within most wide s ≡ 0 = within_none most wide s none (let d = table_is.count in omega arith) (let c = width_is.count in omega arith) in
-                        record {
-                          is = sym zero_is;
-                          accepted = λ _. record {
-                            symbols = right.symbols;
-                            words_are = right.words_are;
-                            kinds-are = right.kinds-are;
-                            many = right.lines ∙ sym (formulas-many s none);
-                            tabled = all-tabled;
-                            placed = still_placed;
-                            lean-many = width_is.count;
-                            brief = subst (λ k. (p : Form) → p ∈ tabled s → length (print k p) < 2 ^ 32) (spell-line s line) brief;
-                            lean-are = width_is.members;
-                          };
-                          refused = λ n. absurd (n zero_is);
-                        }
-
--- ---- the places of five formulas
-
-pub roots-five : {ends : List ℕ} {a b c d e : ℕ}
-    → a ≡ get_or ends 0 0 - 1
-    → b ≡ get_or ends 1 0 - 1
-    → c ≡ get_or ends 2 0 - 1
-    → d ≡ get_or ends 3 0 - 1
-    → e ≡ get_or ends 4 0 - 1
-    → RootsAre ends (a ∷ b ∷ c ∷ d ∷ e ∷ [])
-roots-five {ends} {a} {b} {c} {d} {e} p q r s t = record { five = refl; each = go }
-  where
-    go : (i : ℕ) → i < 5 → get_or (a ∷ b ∷ c ∷ d ∷ e ∷ []) i 0 ≡ get_or ends i 0 - 1
-    go zero h = p
-    go (suc zero) h = q
-    go (suc (suc zero)) h = r
-    go (suc (suc (suc zero))) h = s
-    go (suc (suc (suc (suc zero)))) h = t
-    go (suc (suc (suc (suc (suc i))))) h = absurd (omega arith)
+                        → ReadIs most wide s (Ok (record { symbols = h.symbols; words = h.words; kinds = h.kinds; formulas = h.lines; places = places₁; count = v; members = tab₂; width = w; lean = l' }))
+                    accepted-is k = (
+                      within_none most wide s none (let d = table_is.count in omega arith) (let c = width_is.count in omega arith),
+                      record {
+                        symbols = right.symbols;
+                        words_are = right.words_are;
+                        kinds-are = right.kinds-are;
+                        many = right.lines ∙ sym (formulas-many s none);
+                        tabled = all-tabled;
+                        placed = still_placed;
+                        lean-many = width_is.count;
+                        brief = subst (λ k. (p : Form) → p ∈ tabled s → length (print k p) < 2 ^ 32) (spell-line s line) brief;
+                        lean-are = width_is.members;
+                      },
+                    )

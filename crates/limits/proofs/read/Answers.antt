@@ -5,7 +5,7 @@ use Rattle.limits.proofs.read.Goals as goal
 
 pub returns-then-wrong : goal.returns-then-wrong
 returns-then-wrong c =
-    read-wrong _ _ (sym c.wrong.ensures ∙ c.if-wrong.true) c.refused.ensures
+    read-wrong _ _ (sym c.wrong.ensures ∙ c.if-wrong.true)
 
 pub read_within-requires : goal.read_within-requires
 read_within-requires c =
@@ -14,4 +14,4 @@ read_within-requires c =
 
 pub returns : goal.returns
 returns c =
-    read_right _ _ (sym c.wrong.ensures ∙ c.if-wrong.false) c.read_within.ensures
+    read_right _ _ c.read_within.result (sym c.wrong.ensures ∙ c.if-wrong.false) c.read_within.ensures

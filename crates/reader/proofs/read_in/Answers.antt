@@ -1,13 +1,16 @@
 -- `read_in` meets its contract, a return for each refusal, and one for a sheet that has none. Assumes nothing.
-use Rattle.reader.proofs.ReadLaws.{refused-read, lines-within, closes, refused-beyond, refused-many, still-few, kinds-within, symbols-within, words-line, values-ask, leans, refused-crowded, refused-wide, accepted-is}
-use mathlib.Core.Path.{refl, sym, ap, ◌∙◌}
+use Rattle.reader.proofs.ReadLaws.{refused-read, some-number, lines-within, closes, refused-beyond, refused-many, still-few, kinds-within, symbols-within, words-line, values-ask, leans, refused-crowded, refused-wide, accepted-is}
+use mathlib.Core.Path.{refl, sym}
+use native.Mathlib.Omega.{arith}
 use lib.Seq.{length-take-le}
-use Rattle.reader.specs.Reader.{blank}
 use Rattle.reader.proofs.read_in.Goals as goal
 
 pub returns-then-k-ne0 : goal.returns-then-k-ne0
 returns-then-k-ne0 c =
-    refused-read c.read_sheet-sheet.ensures c.if-k-ne0.true (c.refused.ensures ∙ ap blank c.refusal_by.ensures)
+    refused-read c.read_sheet-sheet.ensures _ _ c.if-k-ne0.true c.refusal_by.ensures
+
+pub refusal_by-requires : goal.refusal_by-requires
+refusal_by-requires c = let n = c.if-k-ne0.true in (omega arith, some-number c.read_sheet-sheet.ensures)
 
 pub slice_bounds-roots-end : goal.slice_bounds-roots-end
 slice_bounds-roots-end c =
@@ -23,11 +26,11 @@ close-requires c =
 
 pub returns-in_default : goal.returns-in_default
 returns-in_default c =
-    refused-beyond c.read_sheet-sheet.ensures c.if-k-ne0.false (still-few c.read_sheet-sheet.auto.tab c.requires.nodes_nonzero.0) c.roots_of-roots.ensures c.requires.most_bound.0 refl c.close.ensures c.in_default.is c.refused-in_default.ensures
+    refused-beyond c.read_sheet-sheet.ensures c.if-k-ne0.false (still-few c.read_sheet-sheet.auto.tab c.requires.nodes_nonzero.0) c.roots_of-roots.ensures c.requires.most_bound.0 refl c.close.ensures _ c.in_default.is
 
 pub returns-then-most-closed : goal.returns-then-most-closed
 returns-then-most-closed c =
-    refused-many c.read_sheet-sheet.ensures c.if-k-ne0.false (still-few c.read_sheet-sheet.auto.tab c.requires.nodes_nonzero.0) c.roots_of-roots.ensures c.requires.most_bound.0 refl c.close.ensures c.in-Within.is c.if-most-closed.true c.refused-then-most-closed.ensures
+    refused-many c.read_sheet-sheet.ensures c.if-k-ne0.false (still-few c.read_sheet-sheet.auto.tab c.requires.nodes_nonzero.0) c.roots_of-roots.ensures c.requires.most_bound.0 refl c.close.ensures c.in-Within.is _ c.if-most-closed.true
 
 pub slice_bounds-kinds-end : goal.slice_bounds-kinds-end
 slice_bounds-kinds-end c =
@@ -59,7 +62,7 @@ shape_of-nodes-in_default-lean_of c =
 
 pub returns-in_default-lean_of : goal.returns-in_default-lean_of
 returns-in_default-lean_of c =
-    refused-crowded c.read_sheet-sheet.ensures c.if-k-ne0.false (still-few c.read_sheet-sheet.auto.tab c.requires.nodes_nonzero.0) c.roots_of-roots.ensures c.requires.most_bound.0 refl c.close.ensures c.in-Within.is c.if-most-closed.false c.requires.most_bound.1 c.with_values-count.ensures (words-line c.read_sheet-sheet.ensures c.if-k-ne0.false (still-few c.read_sheet-sheet.auto.tab c.requires.nodes_nonzero.0)) refl c.lean_of.ensures c.in_default-lean_of.is c.refused-in_default-lean_of.ensures
+    refused-crowded c.read_sheet-sheet.ensures c.if-k-ne0.false (still-few c.read_sheet-sheet.auto.tab c.requires.nodes_nonzero.0) c.roots_of-roots.ensures c.requires.most_bound.0 refl c.close.ensures c.in-Within.is c.if-most-closed.false c.requires.most_bound.1 c.with_values-count.ensures (words-line c.read_sheet-sheet.ensures c.if-k-ne0.false (still-few c.read_sheet-sheet.auto.tab c.requires.nodes_nonzero.0)) refl c.lean_of.ensures c.in_default-lean_of.is
 
 pub shape_of-nodes-then-wide-width : goal.shape_of-nodes-then-wide-width
 shape_of-nodes-then-wide-width c =
@@ -67,7 +70,7 @@ shape_of-nodes-then-wide-width c =
 
 pub returns-then-wide-width : goal.returns-then-wide-width
 returns-then-wide-width c =
-    refused-wide c.read_sheet-sheet.ensures c.if-k-ne0.false (still-few c.read_sheet-sheet.auto.tab c.requires.nodes_nonzero.0) c.roots_of-roots.ensures c.requires.most_bound.0 refl c.close.ensures c.in-Within.is c.if-most-closed.false c.requires.most_bound.1 c.with_values-count.ensures (words-line c.read_sheet-sheet.ensures c.if-k-ne0.false (still-few c.read_sheet-sheet.auto.tab c.requires.nodes_nonzero.0)) refl c.lean_of.ensures c.in-Count.is c.if-wide-width.true c.refused-then-wide-width.ensures
+    refused-wide c.read_sheet-sheet.ensures c.if-k-ne0.false (still-few c.read_sheet-sheet.auto.tab c.requires.nodes_nonzero.0) c.roots_of-roots.ensures c.requires.most_bound.0 refl c.close.ensures c.in-Within.is c.if-most-closed.false c.requires.most_bound.1 c.with_values-count.ensures (words-line c.read_sheet-sheet.ensures c.if-k-ne0.false (still-few c.read_sheet-sheet.auto.tab c.requires.nodes_nonzero.0)) refl c.lean_of.ensures c.in-Count.is c.if-wide-width.true
 
 pub returns : goal.returns
 returns c =
