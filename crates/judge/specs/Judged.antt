@@ -1,12 +1,11 @@
 -- What judging finds: the first naming that has a goal type, with the first of these; or that there is none. Assumes nothing.
-use Rattle.std.specs.Prelude.{◌≡◌, List, [], ℕ, ◌+◌, ◌*◌, ◌^◌, ◌≤◌, ◌<◌, length}
+use Rattle.std.specs.Prelude.{◌≡◌, List, [], ℕ, Some, ◌+◌, ◌*◌, ◌^◌, ◌≤◌, ◌<◌, length}
 use Rattle.ctl.specs.Lists.{keep}
 use Rattle.ctl.specs.Verdict as Ctl
 use Rattle.truth.specs.Truths.{true_at}
 use Rattle.tableau.specs.Families.{Survivors}
 use Rattle.start.specs.Starts.{Named, start_list}
 use Rattle.goal.specs.Goals.{first_of}
-use Rattle.goal.specs.declared.Found.TheVariants.{At}
 use Rattle.judge.specs.declared.Verdict.{Verdict}
 use Rattle.judge.specs.declared.Verdict.TheVariants.{Open, Unsatisfiable}
 
@@ -30,7 +29,7 @@ pub record Places (w : ℕ) (ln names base : List ℕ) : Type 0 where
 
 -- of namings below n, where `goals` gives the goal types of each
 pub data Judged (goals : ℕ → List ℕ) (n : ℕ) : Verdict → Type 0 where
-  opens : {r t : ℕ} → r < n → ((q : ℕ) → q < r → goals q ≡ []) → first_of (goals r) ≡ At t → Judged goals n (Open r t)
+  opens : {r t : ℕ} → r < n → ((q : ℕ) → q < r → goals q ≡ []) → first_of (goals r) ≡ Some t → Judged goals n (Open r t)
   closes : ((q : ℕ) → q < n → goals q ≡ []) → Judged goals n Unsatisfiable
 
 -- the verdict of the logic

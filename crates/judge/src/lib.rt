@@ -8,11 +8,13 @@ ghost use Rattle.tableau.specs.Tabled.{Tabled};
 ghost use Rattle.judge.specs.Judged.{goals_at, Room, Places, Judged};
 ghost use Rattle.goal.specs.Goals.{first_of};
 
-use goal::{Found, goal_type};
+use goal::goal_type;
 use start::start_words;
 use tableau::eliminate::settle;
 use tableau::table::{Counts, table};
 
+// What judging finds. It has names of its own, where an `Option` would do, for they say what a reader must know: under which naming the goal is open, with the least type
+// there, or that it is unsatisfiable.
 #[derive(Clone, Copy)]
 pub enum Verdict {
     Open { naming: u64, least: usize },
@@ -75,7 +77,7 @@ fn try_naming(
     todo: &mut [u64],
     v: &mut [u64],
     rest: &mut [u64],
-) -> Found
+) -> Option<usize>
     requires ready { Ready ms.now ln.now w tw.now cw.now ns.now }
     requires room { Room w first.old second.old copy.old todo.old v.old rest.old }
     requires places { Places w ln.now names.now base.now × (goal < length ms.now) }
@@ -111,12 +113,13 @@ fn judge_in(
     ensures { Judged (goals_at ms.now ln.now w base.now names.now goal) namings result }
 {
     let mut n = naming::first(namings);
+    // By hand, as everywhere that goes from naming to naming: the naming in hand moves on by `naming::advanced`, a rule of the project, and no range stands for it.
     while n.number < n.count {
         let r = n.number;
         let found = try_naming(
             ms, ln, w, tw, cw, ns, names, base, goal, r, first, second, copy, todo, v, rest,
         );
-        if let Found::At(t) = found {
+        if let Some(t) = found {
             return Verdict::Open {
                 naming: r,
                 least: t,

@@ -67,10 +67,8 @@ pub fn round(
     ensures value { result ≡ all_below (w * 64) (λ t. beq (member src.now t) (member dst.new t)) }
 {
     wordset::copy(dst, src, w);
-    let mut j = 0;
-    while j < ns.len() {
-        eliminate_need(ns, tw, cw, w, ns[j], src, dst, copy, todo, v, rest);
-        j += 1;
+    for &x in ns {
+        eliminate_need(ns, tw, cw, w, x, src, dst, copy, todo, v, rest);
     }
     wordset::equal(src, dst, w)
 }

@@ -70,10 +70,8 @@ fn follow_all(
     requires w_in_bounds { (w ≤ length src.now) × (w ≤ length copy.now) × (w ≤ length dst.old) × (w ≤ length v.old) × (w ≤ length rest.old) }
     ensures { (t : ℕ) → t < w * 64 → member dst.new t ≡ (member dst.old t && has_nexts w tw.now cw.now ns.now (member (ranked w src.now copy.now)) a t) }
 {
-    let mut j = 0;
-    while j < ns.len() {
-        follow(tw, cw, w, ns[j], a, src, copy, dst, v, rest);
-        j += 1;
+    for &x in ns {
+        follow(tw, cw, w, x, a, src, copy, dst, v, rest);
     }
 }
 

@@ -9,9 +9,9 @@ loop-n-init c = (judge-moved judge-start (start-number c.first-n.result c.first-
 pub try_naming-found-requires : goal.try_naming-found-requires
 try_naming-found-requires c = record { ready = c.requires.ready; room = room-kept c.requires.room c.loop-n.invariant.1.1; places = c.requires.places }
 
-pub returns-in-At : goal.returns-in-At
-returns-in-At c =
-    judge-open c.loop-n.invariant.0 (in-hand c.loop-n.n c.loop-n.invariant.1.0 c.loop-n-test.true) (sym c.try_naming-found.ensures ∙ c.in-At.is)
+pub returns-in-Some : goal.returns-in-Some
+returns-in-Some c =
+    judge-open c.loop-n.invariant.0 (in-hand c.loop-n.n c.loop-n.invariant.1.0 c.loop-n-test.true) (sym c.try_naming-found.ensures ∙ c.in-Some.is)
 
 pub loop-n-smaller : goal.loop-n-smaller
 loop-n-smaller c =
