@@ -14,9 +14,9 @@ loop-n-init c =
 pub fill_one-requires : goal.fill_one-requires
 fill_one-requires c =
     let hand : c.loop-n.n.number < c.args.namings = in-hand _ c.loop-n.invariant.1.0 c.loop-n-test.true in
-    let room : c.loop-n.n.number * c.args.w + c.args.w ≤ length c.loop-n.store = written-room c.loop-n.invariant.0 (hand) in
+    let room : c.loop-n.n.number * c.args.sheet.now.words.w + c.args.sheet.now.words.w ≤ length c.loop-n.store = written-room c.loop-n.invariant.0 (hand) in
     let at = c.loop-n in
-    record { ready = c.requires.ready; places = (c.requires.places.0, omega (arith, room, tail-length at.store (at.n.number * c.args.w))) }
+    record { ready = c.requires.ready; places = (c.requires.places.0, omega (arith, room, tail-length at.store (at.n.number * c.args.sheet.now.words.w))) }
 
 pub loop-n-smaller : goal.loop-n-smaller
 loop-n-smaller c =
@@ -35,24 +35,24 @@ returns c = let inv = c.loop-n.invariant in written-end inv.0 (none_left _ inv.1
 pub overflow_mul-at : goal.overflow_mul-at
 overflow_mul-at c =
     let hand : c.loop-n.n.number < c.args.namings = in-hand _ c.loop-n.invariant.1.0 c.loop-n-test.true in
-    let room : c.loop-n.n.number * c.args.w + c.args.w ≤ length c.loop-n.store = written-room c.loop-n.invariant.0 (hand) in omega (arith, room, c.well_formed)
+    let room : c.loop-n.n.number * c.args.sheet.now.words.w + c.args.sheet.now.words.w ≤ length c.loop-n.store = written-room c.loop-n.invariant.0 (hand) in omega (arith, room, c.well_formed)
 
 pub offset_bounds-store-at : goal.offset_bounds-store-at
 offset_bounds-store-at c =
     let hand : c.loop-n.n.number < c.args.namings = in-hand _ c.loop-n.invariant.1.0 c.loop-n-test.true in
-    let room : c.loop-n.n.number * c.args.w + c.args.w ≤ length c.loop-n.store = written-room c.loop-n.invariant.0 (hand) in omega (arith, room, c.well_formed)
+    let room : c.loop-n.n.number * c.args.sheet.now.words.w + c.args.sheet.now.words.w ≤ length c.loop-n.store = written-room c.loop-n.invariant.0 (hand) in omega (arith, room, c.well_formed)
 
 pub slice_bounds-fill_one-count : goal.slice_bounds-fill_one-count
 slice_bounds-fill_one-count c =
     let hand : c.loop-n.n.number < c.args.namings = in-hand _ c.loop-n.invariant.1.0 c.loop-n-test.true in
-    let room : c.loop-n.n.number * c.args.w + c.args.w ≤ length c.loop-n.store = written-room c.loop-n.invariant.0 (hand) in omega (arith, room)
+    let room : c.loop-n.n.number * c.args.sheet.now.words.w + c.args.sheet.now.words.w ≤ length c.loop-n.store = written-room c.loop-n.invariant.0 (hand) in omega (arith, room)
 
 pub slice_bounds-fill_one-start : goal.slice_bounds-fill_one-start
 slice_bounds-fill_one-start c =
     let hand : c.loop-n.n.number < c.args.namings = in-hand _ c.loop-n.invariant.1.0 c.loop-n-test.true in
-    let room : c.loop-n.n.number * c.args.w + c.args.w ≤ length c.loop-n.store = written-room c.loop-n.invariant.0 (hand) in omega (arith, room)
+    let room : c.loop-n.n.number * c.args.sheet.now.words.w + c.args.sheet.now.words.w ≤ length c.loop-n.store = written-room c.loop-n.invariant.0 (hand) in omega (arith, room)
 
 pub slice_bounds-fill_one-end : goal.slice_bounds-fill_one-end
 slice_bounds-fill_one-end c =
     let hand : c.loop-n.n.number < c.args.namings = in-hand _ c.loop-n.invariant.1.0 c.loop-n-test.true in
-    let room : c.loop-n.n.number * c.args.w + c.args.w ≤ length c.loop-n.store = written-room c.loop-n.invariant.0 (hand) in omega (arith, room)
+    let room : c.loop-n.n.number * c.args.sheet.now.words.w + c.args.sheet.now.words.w ≤ length c.loop-n.store = written-room c.loop-n.invariant.0 (hand) in omega (arith, room)

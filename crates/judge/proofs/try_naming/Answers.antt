@@ -11,12 +11,12 @@ start_words-requires c =
 
 pub settle-requires : goal.settle-requires
 settle-requires c =
-    let room = c.requires.room in record { made = (c.args.ms.now, c.args.ln.now, c.requires.ready); w_in_bounds = (subst (λ n. c.args.w ≤ n) (sym c.start_words.auto.dst) room.first-room, room.second-room, room.copy-room, room.todo-room, room.v-room, room.rest-room) }
+    let room = c.requires.room in record { made = (c.args.sheet.now.ms.now, c.args.sheet.now.ln.now, c.requires.ready); w_in_bounds = (subst (λ n. c.args.sheet.now.words.w ≤ n) (sym c.start_words.auto.dst) room.first-room, room.second-room, room.copy-room, room.todo-room, room.v-room, room.rest-room) }
 
 pub goal_type-requires : goal.goal_type-requires
-goal_type-requires c = record { truths = c.requires.ready.truths; goal_in_bounds = (c.requires.places.1, subst (λ n. c.args.w ≤ n) (sym (c.settle.auto.first ∙ c.start_words.auto.dst)) c.requires.room.first-room, c.requires.ready.small) }
+goal_type-requires c = record { truths = c.requires.ready.truths; goal_in_bounds = (c.requires.places.1, subst (λ n. c.args.sheet.now.words.w ≤ n) (sym (c.settle.auto.first ∙ c.start_words.auto.dst)) c.requires.room.first-room, c.requires.ready.small) }
 
 pub returns : goal.returns
 returns c =
     let room = c.requires.room.first-room in
-    found-is _ _ _ _ _ _ _ c.args.first.now _ _ room (first-is _ c.args.base.now c.args.names.now _ c.args.r _ _ room c.start_words.ensures _ _ _ (c.settle.ensures.by_index_2 _ _ c.requires.ready)) c.goal_type.ensures
+    found-is _ _ _ _ _ _ _ c.args.first.now _ _ room (first-is _ c.args.sheet.now.base.now c.args.sheet.now.names.now _ c.args.r _ _ room c.start_words.ensures _ _ _ (c.settle.ensures.by_index_2 _ _ c.requires.ready)) c.goal_type.ensures

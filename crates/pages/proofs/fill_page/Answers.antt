@@ -18,7 +18,7 @@ put_naming-k-requires c =
     let i = c.loop-n.invariant.1 in record { space = omega arith; short = c.requires.number_le_count.1.1 }
 
 pub goal_type-found-requires : goal.goal_type-found-requires
-goal_type-found-requires c = let w = c.requires.places.1 in record { truths = c.requires.ready.truths; goal_in_bounds = (w.1, subst (λ n. c.args.w ≤ n) (sym c.fill_table-c.auto.first) (first-room c.loop-n.invariant.0 w.0), c.requires.ready.small) }
+goal_type-found-requires c = let w = c.requires.places.1 in record { truths = c.requires.ready.truths; goal_in_bounds = (w.1, subst (λ n. c.args.sheet.now.words.w ≤ n) (sym c.fill_table-c.auto.first) (first-room c.loop-n.invariant.0 w.0), c.requires.ready.small) }
 
 pub overflow_sub-out : goal.overflow_sub-out
 overflow_sub-out c =

@@ -3,4 +3,4 @@ use Rattle.tableau.proofs.Rounding.{Rounded}
 use Rattle.tableau.proofs.eliminate.round.Given as goal
 
 abbrev pub invariant-loop-x : goal.invariant-loop-x
-invariant-loop-x l = Rounded l.w l.tw l.cw l.ns l.src l.initial.dst l.initial.copy l.initial.todo l.initial.v l.initial.rest l.dst l.copy l.todo l.v l.rest l.x-index
+invariant-loop-x l = Rounded l.words.w l.words.tw.now l.words.cw.now l.words.ns.now l.src l.initial.dst l.initial.copy l.initial.todo l.initial.v l.initial.rest l.dst l.copy l.todo l.v l.rest l.x-index
