@@ -128,12 +128,12 @@ module _ {s : List ℕ} {u : Setup} (x : Accepts s u) where
 -- ---- the same of what the sheet's tables are made from
 
 -- what is so of a sheet's members, lean, names and words is so of the set-up's
-by-parts : (P : List ℕ → List ℕ → List ℕ → ℕ → Type 0) {ms ms' ln ln' names names' : List ℕ} {w w' : ℕ} → ms ≡ ms' → ln ≡ ln' → names ≡ names' → w ≡ w' → P ms ln names w → P ms' ln' names' w'
+pub by-parts : (P : List ℕ → List ℕ → List ℕ → ℕ → Type 0) {ms ms' ln ln' names names' : List ℕ} {w w' : ℕ} → ms ≡ ms' → ln ≡ ln' → names ≡ names' → w ≡ w' → P ms ln names w → P ms' ln' names' w'
 by-parts P {ms} {ms'} {ln} {ln'} {names} {names'} {w} {w'} e f g h x =
     subst (λ a. P a ln' names' w') e (subst (λ a. P ms a names' w') f (subst (λ a. P ms ln a w') g (subst (λ a. P ms ln names a) h x)))
 
 module _ {s : List ℕ} {u : Setup} (x : Accepts s u) {t : Sheet} (f : SheetOf u t) where
-  ready-of : Ready (members_in u) (lean_in u) u.words t.words.tw.now t.words.cw.now t.words.ns.now × Based u.words (in_base (members_in u) (lean_in u) (globals_in u) (values_in u)) (names_in u) t.base.now
+  pub ready-of : Ready (members_in u) (lean_in u) u.words t.words.tw.now t.words.cw.now t.words.ns.now × Based u.words (in_base (members_in u) (lean_in u) (globals_in u) (values_in u)) (names_in u) t.base.now
   ready-of =
       (by-parts (λ ms ln names w. Ready ms ln w t.words.tw.now t.words.cw.now t.words.ns.now) f.members-are f.lean-is f.names-are f.width-is f.prepared, f.based)
 
