@@ -1,16 +1,12 @@
 -- `token::inner_at` meets its contract: what stands at the first byte that is no space, by the laws of Tokens. Assumes nothing.
 use mathlib.Core.Path.{sym, ◌∙◌}
-use native.Mathlib.Omega.{arith}
 use Rattle.token.specs.Token.{head_front, inner_at}
-use Rattle.token.proofs.Tokens.{past_end, from-capital, inner-plain, upper_is}
+use Rattle.token.proofs.Tokens.{past_end, from-capital, inner-plain}
 use Rattle.token.proofs.inner_at.Goals as goal
 
 pub returns-then-s-i : goal.returns-then-s-i
 unfolding inner_at
 returns-then-s-i c = past_end head_front c.args.s.now c.args.at _ c.skip_spaces-i.ensures c.if-s-i.true
-
-pub head_capital-requires : goal.head_capital-requires
-head_capital-requires c = (omega arith, (upper_is _ (sym c.is_ascii_uppercase.ensures.value ∙ c.if-is_ascii_uppercase.true)).1)
 
 pub returns-then-is_ascii_uppercase : goal.returns-then-is_ascii_uppercase
 unfolding inner_at

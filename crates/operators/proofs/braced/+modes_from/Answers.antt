@@ -1,16 +1,9 @@
-use mathlib.Core.Path.{refl}
-use native.Mathlib.Omega.{arith}
-use Rattle.token.proofs.Tokens.{token-past}
-use Rattle.operators.proofs.ModeLaws.{mode-behind, modes-wrong, modes-none, modes-last, modes-more}
+use Rattle.operators.proofs.ModeLaws.{modes-wrong, modes-none, modes-last, modes-more}
 use Rattle.operators.proofs.braced.+modes_from.Goals as goal
 
 pub returns-in_err-found : goal.returns-in_err-found
 returns-in_err-found t c =
     rw c.from_residual.ensures (modes-wrong _ _ _ _ _ _ c.next_two.ensures.first-is _ c.one_mode.ensures c.in_err-found.was)
-
-pub modes_from-requires : goal.modes_from-requires
-modes_from-requires t c =
-    omega (arith, c.requires, c.next_two.ensures.first-is.past, c.next_two.ensures.second_is.inside, token-past c.next_two.ensures.second_is c.in-Comma.is refl, mode-behind _ _ _ _ 0 _ c.next_two.ensures.first-is _ c.one_mode.ensures _ c.in_ok-found.was _ c.next_two.ensures.second_is)
 
 pub returns-in-Comma : goal.returns-in-Comma
 returns-in-Comma t c =
