@@ -66,8 +66,8 @@ shape_of-nodes-then-wide-width c =
 
 pub returns-then-wide-width : goal.returns-then-wide-width
 returns-then-wide-width c =
-    refused-wide c.in_ok-sheet.ensures (still-few c.read_sheet.auto.tab c.requires.nodes_nonzero.0) c.roots_of-roots.ensures c.requires.most_bound.0 refl c.close.ensures c.in-Some.is c.if-most-closed.false c.requires.most_bound.1 c.with_values-count.ensures (words-line c.in_ok-sheet.ensures (still-few c.read_sheet.auto.tab c.requires.nodes_nonzero.0)) (replicate 12 0) c.lean_of.new.lean refl _ c.lean_of.ensures c.in-Some-2.is c.if-wide-width.true
+    refused-wide c.in_ok-sheet.ensures (still-few c.read_sheet.auto.tab c.requires.nodes_nonzero.0) c.roots_of-roots.ensures c.requires.most_bound.0 refl c.close.ensures c.in-Some.is c.if-most-closed.false c.requires.most_bound.1 c.with_values-count.ensures (words-line c.in_ok-sheet.ensures (still-few c.read_sheet.auto.tab c.requires.nodes_nonzero.0)) (replicate 12 0) c.lean_of.new.lean refl _ c.lean_of.ensures c.in-Some-lean_of.is c.if-wide-width.true
 
 pub returns : goal.returns
 returns c =
-    accepted-is c.in_ok-sheet.ensures (still-few c.read_sheet.auto.tab c.requires.nodes_nonzero.0) c.roots_of-roots.ensures c.requires.most_bound.0 refl c.close.ensures c.in-Some.is c.if-most-closed.false c.requires.most_bound.1 c.with_values-count.ensures (words-line c.in_ok-sheet.ensures (still-few c.read_sheet.auto.tab c.requires.nodes_nonzero.0)) (replicate 12 0) c.lean_of.new.lean refl _ c.lean_of.ensures c.in-Some-2.is c.if-wide-width.false
+    accepted-is c.in_ok-sheet.ensures (still-few c.read_sheet.auto.tab c.requires.nodes_nonzero.0) c.roots_of-roots.ensures c.requires.most_bound.0 refl c.close.ensures c.in-Some.is c.if-most-closed.false c.requires.most_bound.1 c.with_values-count.ensures (words-line c.in_ok-sheet.ensures (still-few c.read_sheet.auto.tab c.requires.nodes_nonzero.0)) (replicate 12 0) c.lean_of.new.lean refl _ c.lean_of.ensures c.in-Some-lean_of.is c.if-wide-width.false
