@@ -1,19 +1,19 @@
 -- What the library's methods and the loops' tests say of a text. Assumes nothing.
-use mathlib.Core.Path.{◌≡◌, refl, sym, ap, ap₂}
-use mathlib.Core.Bool.{Bool, true, false, cond, not, ◌&&◌, ◌||◌, or-false}
+use mathlib.Core.Path.{◌≡◌, refl, sym, ap, ap₂, ◌∙◌}
+use mathlib.Core.Bool.{Bool, true, false, cond, not, ◌&&◌, ◌||◌, or-false, and-true}
 use mathlib.Core.List.{List, [], ◌∷◌}
 use Prim.Native.Nat.{ℕ, zero, suc, ◌+◌, ◌-◌, ◌≤◌, ◌<◌}
-use native.Mathlib.Numerals.{add-one}
 use native.Mathlib.Omega.{arith}
 use native.Mathlib.Decide.{dec_le}
 use lib.ListN.{length, get_or, take, drop, length-drop, length-take, drop_of_length-le}
 use lib.Seq.{drop-cons}
 use lib.Dec.{eqb, ltb}
 use borrow.Author.Tests.{eq-eqb, ne_eqb, eqb-true, eqb-false, lt-ltb, le-ltb}
-use Rattle.std.specs.List.{list_any, slice_split, starts_with}
+use Rattle.std.specs.List.{list_any, count_by, slice_split, starts_with, ends_with}
 use Rattle.std.specs.Cmp.Lexicographic.{pointwise}
-use Rattle.layout.specs.Text.{part, upto, end_of, push, split, same, begins, has}
-use Rattle.layout.specs.Layout.{newline, any_long, byte_right, byte_wrong}
+use Rattle.std.proofs.lemmas.List.Splits.{length-slice_split}
+use Rattle.layout.specs.Text.{part, upto, end_of, push, split, ended, same, begins, has}
+use Rattle.layout.specs.Layout.{newline, any_long, byte_right, byte_wrong, ends_right}
 use Rattle.layout.proofs.TextLaws.{split-last, split-next, cut-last, cut-next}
 
 -- ---- what the library's methods answer
@@ -43,6 +43,19 @@ unfolding split
 split-is b [] = refl
 split-is b (c ∷ r) = ap (λ t. cond (eqb c b) ([] ∷ t) (push c t)) (split-is b r)
 
+-- the lines that a newline ends are as many as there are newlines
+ended-less : (ps : List (List ℕ)) → length (ended ps) ≡ length ps - 1
+unfolding ended
+ended-less [] = refl
+ended-less (l ∷ []) = refl
+ended-less (l ∷ m ∷ ms) = let h = ended-less (m ∷ ms) in omega arith
+
+pub lines-count : (s : List ℕ) → count_by (λ b. eqb b newline) s ≡ length (ended (split newline s))
+lines-count s =
+    let h = length-slice_split (λ b. eqb b newline) s in
+    let e : length (slice_split (λ b. eqb b newline) s) ≡ length (split newline s) = ap length (split-is newline s) in
+    omega (arith, ended-less (split newline s))
+
 eqb-comm : (c d : ℕ) → eqb d c ≡ eqb c d
 eqb-comm c d = go (eqb d c) refl
   where
@@ -56,6 +69,16 @@ unfolding begins
 begins-is s [] = refl
 begins-is [] (d ∷ q) = refl
 begins-is (c ∷ r) (d ∷ q) = ap₂ ◌&&◌ (eqb-comm c d) (begins-is r q)
+
+-- a text that ends with a newline
+pub ends-is : (s : List ℕ) → ends_with eqb s (newline ∷ []) ≡ ends_right s
+unfolding ends_right
+ends-is [] = refl
+ends-is (c ∷ r) =
+    let s = c ∷ r in
+    let n : ℕ = length s - 1 in
+    let e : drop n s ≡ get_or s n 0 ∷ [] = drop-cons s n 0 (omega arith) ∙ ap (λ t. get_or s n 0 ∷ t) (drop_of_length-le s {i = suc n} (omega arith)) in
+    ap (pointwise eqb (newline ∷ [])) e ∙ and-true (eqb newline (get_or s n 0)) ∙ eqb-comm (get_or s n 0) newline
 
 -- ---- lines over 200
 pub part_length : (s : List ℕ) (a e : ℕ) → e ≤ length s → length (part s a e) ≡ e - a

@@ -3,7 +3,7 @@ ghost use Rattle.std.specs.Prelude.{◌≡◌};
 ghost use Rattle.layout.specs.Text.{begins};
 ghost use Rattle.layout.specs.Layout.{lines_from, all_word, goal_word, starts_right, layout_right};
 
-use crate::lines::{count_lines, next_line};
+use crate::lines::{count_lines, third_line};
 use crate::text::{begins_with, end_of};
 
 pub fn all_start(line: &[u8]) -> bool
@@ -45,11 +45,7 @@ pub fn starts_right(s: &[u8], from: usize) -> bool
 pub fn layout_right(s: &[u8]) -> bool
     ensures { result ≡ layout_right s.now }
 {
-    let n = s.len();
-    if n == 0 {
-        return false;
-    }
-    if s[n - 1] != b'\n' {
+    if !s.ends_with(b"\n") {
         return false;
     }
     let k = count_lines(s);
@@ -59,6 +55,5 @@ pub fn layout_right(s: &[u8]) -> bool
     if 7 < k {
         return false;
     }
-    let second = next_line(s, 0);
-    starts_right(s, next_line(s, second))
+    starts_right(s, third_line(s))
 }
