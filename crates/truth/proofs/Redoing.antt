@@ -1,5 +1,5 @@
 -- One block of a store written anew, word after word, and such steps one after the other. For any word count. Assumes nothing.
-use mathlib.Core.Path.{◌≡◌, refl, sym, ◌∙◌, subst}
+use mathlib.Core.Path.{◌≡◌, sym, ◌∙◌, subst}
 use mathlib.Core.Bool.{Bool}
 use mathlib.Core.List.{List}
 use mathlib.Core.Logic.{◌⊎◌, inl, inr}
@@ -26,9 +26,6 @@ pub record Redoing (A : ℕ → ℕ → Type 0) (w i : ℕ) (d ws : List ℕ) (k
   pub done : (l : ℕ) → l < k → A l (get_or ws (i * w + l) 0)
 
 module _ {A : ℕ → ℕ → Type 0} {w i : ℕ} {d : List ℕ} where
-  pub redo-start : Redoing A w i d d 0
-  redo-start = record { long = refl; within = omega arith; before = λ j h. refl; rest = λ j h. refl; done = λ l h. absurd (omega arith) }
-
   module _ {ws : List ℕ} {k : ℕ} (s : Redoing A w i d ws k) where
     pub redo-on : i * w + w ≤ length d → k < w → {x : ℕ} → A k x → Redoing A w i d (set ws (i * w + k) x) (k + 1)
     redo-on r h {x} a = record {
