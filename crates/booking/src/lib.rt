@@ -39,8 +39,8 @@ fn fill_one(
 }
 
 // The tables of namings 0 to n - 1, naming r's w words from word r * w on; the rest of the store is as it was.
-// Each is written by lending on the part that begins at its place. The other stores are room to work in.
-fn book_in(
+// Each is written by lending on the part that begins at its place. The room that rounds work in is cleared once for a book, and has N words.
+fn book_in<const N: usize>(
     ms: &[u64],
     ln: &[u8],
     w: usize,
@@ -51,17 +51,17 @@ fn book_in(
     base: &[u64],
     namings: u64,
     store: &mut [u64],
-    other: &mut [u64],
-    copy: &mut [u64],
-    todo: &mut [u64],
-    v: &mut [u64],
-    rest: &mut [u64],
 )
     requires ready { Ready ms.now ln.now w tw.now cw.now ns.now }
+    requires room { (w ≤ N) × (N ≤ 64) }
     requires places { Places w ln.now names.now base.now × (namings * w ≤ length store.old) }
-    requires w_in_bounds { (w ≤ length other.old) × (w ≤ length copy.old) × (w ≤ length todo.old) × (w ≤ length v.old) × (w ≤ length rest.old) }
     ensures { store.new ≡ tables_by w (λ r t. elem t (Survivors ms.now ln.now (start_list w base.now names.now (length ln.now) r))) namings ++ drop (namings * w) store.old }
 {
+    let mut other = [0u64; N];
+    let mut copy = [0u64; N];
+    let mut todo = [0u64; N];
+    let mut v = [0u64; N];
+    let mut rest = [0u64; N];
     let mut n = naming::first(namings);
     // By hand: the naming in hand moves on by `naming::advanced`, a rule of the project.
     while n.number < n.count {
@@ -78,17 +78,17 @@ fn book_in(
             base,
             r,
             &mut store[at..],
-            other,
-            copy,
-            todo,
-            v,
-            rest,
+            &mut other,
+            &mut copy,
+            &mut todo,
+            &mut v,
+            &mut rest,
         );
         n = naming::advanced(n);
     }
 }
 
-// The same. The room that rounds work in is cleared once for a book, and has the sheet's size.
+// The same, in room that has the sheet's size.
 pub fn fill_book(
     ms: &[u64],
     ln: &[u8],
@@ -106,23 +106,7 @@ pub fn fill_book(
     ensures { store.new ≡ tables_by w (λ r t. elem t (Survivors ms.now ln.now (start_list w base.now names.now (length ln.now) r))) namings ++ drop (namings * w) store.old }
 {
     if w <= 4 {
-        let mut other = [0u64; 4];
-        let mut copy = [0u64; 4];
-        let mut todo = [0u64; 4];
-        let mut v = [0u64; 4];
-        let mut rest = [0u64; 4];
-        return book_in(
-            ms, ln, w, tw, cw, ns, names, base, namings, store, &mut other, &mut copy, &mut todo,
-            &mut v, &mut rest,
-        );
+        return book_in::<4>(ms, ln, w, tw, cw, ns, names, base, namings, store);
     }
-    let mut other = [0u64; 64];
-    let mut copy = [0u64; 64];
-    let mut todo = [0u64; 64];
-    let mut v = [0u64; 64];
-    let mut rest = [0u64; 64];
-    book_in(
-        ms, ln, w, tw, cw, ns, names, base, namings, store, &mut other, &mut copy, &mut todo,
-        &mut v, &mut rest,
-    )
+    book_in::<64>(ms, ln, w, tw, cw, ns, names, base, namings, store)
 }
