@@ -1,15 +1,12 @@
 -- EX or AX with their expansions, told apart by a Boolean: true for EX, false for AX. Assumes nothing.
-use mathlib.Core.Path.{◌≡◌, refl, sym, ap, ◌∙◌, subst}
+use mathlib.Core.Path.{◌≡◌, refl, sym, ap, subst}
 use mathlib.Core.Bool.{Bool, true, false}
 use mathlib.Core.List.{List, [], ◌∷◌, map}
 use Prim.Native.Nat.{ℕ, ◌^◌, ◌<◌}
 use native.Mathlib.Omega.{arith}
 use Rattle.ctl.specs.Formula.{Form, ex, ax}
 use Rattle.ctl.specs.Closure.{or_spine, and_spine, ex_spine, ax_spine}
-use Rattle.members.specs.Grown.{Ready, Answer}
-use Rattle.members.specs.declared.Added.{Added}
-use Rattle.std.proofs.Common.{Option}
-use Rattle.members.proofs.StepLaws.{answer-is}
+use Rattle.members.specs.Grown.{Ready}
 use Rattle.members.specs.Members.{form_by, Canon, c-tru, c-fls, c-and, c-or, c-ex, c-ax, word_of}
 use Rattle.members.proofs.ModeListLaws.{modes-from}
 use Rattle.expansion.specs.Operators.{each_of, join_all, join_form, join_spine, join_tag, next_form, next_spine, next_tag, unit_form, unit_tag}
