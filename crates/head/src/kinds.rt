@@ -47,7 +47,7 @@ pub fn kind_right(seen: &[u8], k: u8) -> bool
     true
 }
 
-// The symbols' kinds: 1 to 8.
+// The symbols' kinds: 1 to 8. The count stands beside an array since the project has no heap.
 #[derive(Clone, Copy)]
 pub struct Kinds {
     pub count: usize,

@@ -20,7 +20,7 @@ pub fn name_right(seen: &[u64], word: &[u8]) -> bool
     !seen.contains(&x)
 }
 
-// The symbols' spellings, as words: 1 to 8.
+// The symbols' spellings, as words: 1 to 8. The count stands beside an array since the project has no heap.
 #[derive(Clone, Copy)]
 pub struct Names {
     pub count: usize,

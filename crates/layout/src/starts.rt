@@ -1,22 +1,9 @@
 // The refusal 3: how each line starts, and how the sheet ends. Assumes nothing.
 ghost use Rattle.std.specs.Prelude.{◌≡◌};
-ghost use Rattle.layout.specs.Text.{begins};
-ghost use Rattle.layout.specs.Layout.{lines_from, all_word, goal_word, starts_right, layout_right};
+ghost use Rattle.layout.specs.Layout.{lines_from, starts_right, layout_right};
 
 use crate::lines::{count_lines, third_line};
 use crate::text::{begins_with, end_of};
-
-pub fn all_start(line: &[u8]) -> bool
-    ensures { result ≡ begins line.now all_word }
-{
-    begins_with(line, b"all ")
-}
-
-pub fn goal_start(line: &[u8]) -> bool
-    ensures { result ≡ begins line.now goal_word }
-{
-    begins_with(line, b"goal ")
-}
 
 // The lines from a line's beginning on start with `all `, the last one with `goal `.
 pub fn starts_right(s: &[u8], from: usize) -> bool
@@ -30,9 +17,9 @@ pub fn starts_right(s: &[u8], from: usize) -> bool
     while e < s.len() {
         let after = end_of(b'\n', s, e + 1);
         if s.len() <= after {
-            return goal_start(&s[at..e]);
+            return begins_with(&s[at..e], b"goal ");
         }
-        if !all_start(&s[at..e]) {
+        if !begins_with(&s[at..e], b"all ") {
             return false;
         }
         at = e + 1;

@@ -1,7 +1,5 @@
 -- `head::read_head` meets its contract. Assumes nothing.
-use native.Mathlib.Omega.{arith}
 use Rattle.head.proofs.HeadLaws.{head-1, head-2, head-3, head-4, head-5-none, head-5, accepted}
-use lib.Seq.{length-take-le}
 use mathlib.Core.Path.{sym, ◌∙◌}
 use Rattle.head.proofs.read_head.Goals as goal
 

@@ -1,21 +1,13 @@
 use Rattle.head.specs.Head.{declared}
 use mathlib.Core.Path.{refl, sym, ◌∙◌}
-use Rattle.head.proofs.DeclareLaws.{place-low, declare-more, declare-stop}
-use lib.ListN.{get_or, length-set}
+use Rattle.head.proofs.DeclareLaws.{declare-more, declare-stop}
+use lib.ListN.{length-set}
 use native.Mathlib.Omega.{arith}
 use Rattle.head.proofs.declarations.declare.Goals as goal
 
 pub loop-i-init : goal.loop-i-init
 unfolding declared
 loop-i-init c = (refl, refl)
-
-pub bounds-tab-place_of : goal.bounds-tab-place_of
-bounds-tab-place_of c =
-    omega (arith, c.place_of.ensures, place-low c.loop-i.i (get_or c.args.kinds.now c.loop-i.i 0) (omega arith))
-
-pub offset_bounds-tab-place_of : goal.offset_bounds-tab-place_of
-offset_bounds-tab-place_of c =
-    omega (arith, c.place_of.ensures, place-low c.loop-i.i (get_or c.args.kinds.now c.loop-i.i 0) (omega arith))
 
 pub loop-i-preserved : goal.loop-i-preserved
 loop-i-preserved c =

@@ -1,4 +1,3 @@
-use lib.Seq.{length-take-le}
 use native.Mathlib.Omega.{arith}
 use Rattle.head.proofs.WordLaws.{none-of, collect-wrong, collect-room, collect-last, collect-next, word-few, word-spelled}
 use Rattle.head.proofs.Spellings.{names-packed}
@@ -9,28 +8,10 @@ use Rattle.head.proofs.names.read_names.Goals as goal
 pub loop-words-init : goal.loop-words-init
 loop-words-init c = record { inside = omega arith; few = omega arith; room = refl; are = names-packed _ }
 
-pub end_of-e-requires : goal.end_of-e-requires
-end_of-e-requires c = omega arith
-
-pub slice_bounds-words-end : goal.slice_bounds-words-end
-slice_bounds-words-end c = omega arith
-
-pub slice_bounds-name_right-end : goal.slice_bounds-name_right-end
-slice_bounds-name_right-end c = sym (length-take-le _ _ (omega arith))
-
-pub slice_bounds-name_right-count : goal.slice_bounds-name_right-count
-slice_bounds-name_right-count c = omega arith
-
-pub name_right-requires : goal.name_right-requires
-name_right-requires c = omega arith
-
 pub returns-then-not-name_right : goal.returns-then-not-name_right
 returns-then-not-name_right c =
     let p = c.loop-words.invariant in
     none-of _ (collect-wrong p c.end_of-e.ensures.0 c.end_of-e.ensures.1.1 (sym c.name_right.ensures ∙ c.if-not-name_right.true))
-
-pub slice_bounds-word_from-count : goal.slice_bounds-word_from-count
-slice_bounds-word_from-count c = omega arith
 
 pub word_from-requires : goal.word_from-requires
 word_from-requires c =
@@ -40,25 +21,11 @@ pub bounds-words-count : goal.bounds-words-count
 bounds-words-count c =
     collect-room c.loop-words.invariant c.end_of-e.ensures.0 c.end_of-e.ensures.1.1 word-few (sym c.name_right.ensures ∙ c.if-not-name_right.false)
 
-pub offset_bounds-words-count : goal.offset_bounds-words-count
-offset_bounds-words-count c =
-    omega (arith, collect-room c.loop-words.invariant c.end_of-e.ensures.0 c.end_of-e.ensures.1.1 word-few (sym c.name_right.ensures ∙ c.if-not-name_right.false))
-
-pub overflow_add-count : goal.overflow_add-count
-overflow_add-count c =
-    omega (arith, collect-room c.loop-words.invariant c.end_of-e.ensures.0 c.end_of-e.ensures.1.1 word-few (sym c.name_right.ensures ∙ c.if-not-name_right.false))
-
 pub returns-then-line-e : goal.returns-then-line-e
 returns-then-line-e c =
     let p = c.loop-words.invariant in
     let r = sym c.name_right.ensures ∙ c.if-not-name_right.false in
     record { some = omega arith; few = omega (arith, collect-room p c.end_of-e.ensures.0 c.end_of-e.ensures.1.1 word-few r); room = simp length-set p.room; are = collect-last p c.end_of-e.ensures.0 c.end_of-e.ensures.1.1 word-few r c.word_from.ensures.0 c.if-line-e.true }
-
-pub overflow_add-at : goal.overflow_add-at
-overflow_add-at c = omega arith
-
-pub loop-words-smaller : goal.loop-words-smaller
-loop-words-smaller c = omega arith
 
 pub loop-words-preserved : goal.loop-words-preserved
 loop-words-preserved c =
