@@ -8,7 +8,7 @@ use native.Mathlib.Numerals.{add-one}
 use native.Mathlib.Omega.{arith}
 use lib.Bits.{bit_or}
 use lib.Dec.{eqb}
-use lib.ListN.{length, get_or}
+use lib.ListN.{get_or}
 use borrow.Author.Tests.{eq-eqb, eqb-true, ne_eqb}
 use Rattle.ctl.proofs.BoolLaws.{true-T}
 use Rattle.ctl.proofs.ListLaws.{below_in}
@@ -19,7 +19,6 @@ use Rattle.members.specs.Members.{arg_w, tag_w}
 use Rattle.wordset.proofs.BitLaws.{bit-none, bit-or, bit-pow}
 use Rattle.wordset.proofs.CompareLaws.{both_ways}
 use Rattle.wordset.specs.Below.{any_below}
-use Rattle.needs.specs.FieldBlocks.{ExFields}
 use Rattle.needs.specs.Needs.{ex_over}
 use Rattle.members.proofs.ModeLaws.{power-same}
 
@@ -71,6 +70,3 @@ module _ {ms : List ℕ} where
     is = λ f l. mode-bit (bit_or acc r) f ∙ bit-or acc r f ∙ ap₂ ◌||◌ (sym (mode-bit acc f) ∙ s.is f l) (sym (mode-bit r f) ∙ o f l)
         ∙ ap (λ n. any_below n (ex_over ms f)) (sym (add-one i));
   }
-
-  pub fields-end : {i acc : ℕ} → FieldsSoFar ms i acc → i ≡ length ms → ExFields ms acc
-  fields-end {i} s e = record { is = λ f l. s.is f l ∙ ap (λ n. any_below n (ex_over ms f)) e }

@@ -1,5 +1,5 @@
 // Steps on one block of words. A set of types is w words, block i of tw. Assumes nothing.
-// Each loop has one line: a common loop that takes the word's rule as a closure makes none of them shorter.
+// Each loop is one line. A common loop over a closure serves two of them alone, since `expand_block` reads other blocks too, and is longer than both.
 ghost use Rattle.std.specs.Prelude.{Bool, not, ℕ, ◌+◌, ◌*◌, ◌≤◌, ◌<◌, length};
 ghost use Rattle.ctl.specs.Types.{in_type};
 ghost use Rattle.wordset.specs.Answers.{Answers};

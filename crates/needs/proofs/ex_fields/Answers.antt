@@ -1,5 +1,4 @@
-use native.Mathlib.Omega.{arith}
-use Rattle.needs.proofs.FieldLaws.{fields-end, fields-on, fields-start}
+use Rattle.needs.proofs.FieldLaws.{fields-on, fields-start}
 use Rattle.needs.proofs.ex_fields.Goals as goal
 
 pub loop-x-init : goal.loop-x-init
@@ -7,6 +6,3 @@ loop-x-init c = fields-start
 
 pub loop-x-preserved : goal.loop-x-preserved
 loop-x-preserved c = fields-on _ c.loop-x.invariant c.field_of-acc.ensures
-
-pub returns : goal.returns
-returns c = fields-end c.loop-x.invariant (omega arith)
