@@ -6,7 +6,6 @@ ghost use Rattle.refusal.specs.Number.{number_of};
 ghost use Rattle.reader.specs.Reader.{RootsAre, ReadIs};
 
 use closure::Closed;
-use lean::Gathered;
 use refusal::Refusal;
 
 // The refusal of a number that the reading of a sheet answers.
@@ -84,7 +83,7 @@ fn read_in(s: &[u8], most: usize, wide: usize, nodes: &mut [u64]) -> Result<Read
     let count = values::with_values(&kinds[..symbols], &mut members, closed);
     let words = sheet.words;
     let mut lean = [0u8; 12];
-    let Gathered::Count(width) = lean::lean_of(&members, count, &words[..symbols], &mut lean) else {
+    let Some(width) = lean::lean_of(&members, count, &words[..symbols], &mut lean) else {
         return Err(Refusal::Lean);
     };
     if wide < width {
