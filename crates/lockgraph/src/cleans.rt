@@ -2,7 +2,6 @@
 ghost use Rattle.limits.specs.Limits.{usual};
 ghost use Rattle.outcomes.specs.Outcomes.{CleanIs};
 
-use clean::Length;
 use limits::{Limits, usual_limits};
 use refusal::Refusal;
 
@@ -11,10 +10,7 @@ pub fn clean_within(l: Limits, sheet: &[u8], store: &mut [u8]) -> Result<usize, 
     ensures { CleanIs l sheet.now store.old result store.new }
 {
     let reading = limits::read(l, sheet)?;
-    let Length::Bytes(length) = clean::write_clean(sheet, reading, store) else {
-        return Err(Refusal::Clean);
-    };
-    Ok(length)
+    clean::write_clean(sheet, reading, store).ok_or(Refusal::Clean)
 }
 
 // The same without limits.
