@@ -30,36 +30,11 @@ fn fill_one(
 }
 
 // The tables of namings 0 to n - 1, naming r's w words from word r * w on; the rest of the store is as it was.
-// Each is written by lending on the part that begins at its place. The other stores are room to work in.
-fn book_in(
-    sheet: &Sheet<'_>,
-    namings: u64,
-    store: &mut [u64],
-    other: &mut [u64],
-    copy: &mut [u64],
-    todo: &mut [u64],
-    v: &mut [u64],
-    rest: &mut [u64],
-)
+// Each is written by lending on the part that begins at its place. The room that rounds work in is cleared once for a book, and has N words.
+fn book_in<const N: usize>(sheet: &Sheet<'_>, namings: u64, store: &mut [u64])
     requires ready { Prepared sheet.now }
+    requires room { (sheet.now.words.w ≤ N) × (N ≤ 64) }
     requires places { Placed sheet.now × (namings * sheet.now.words.w ≤ length store.old) }
-    requires w_in_bounds { (sheet.now.words.w ≤ length other.old) × (sheet.now.words.w ≤ length copy.old) × (sheet.now.words.w ≤ length todo.old) × (sheet.now.words.w ≤ length v.old) × (sheet.now.words.w ≤ length rest.old) }
-    ensures { store.new ≡ tables_by sheet.now.words.w (λ r t. elem t (survivors_of sheet.now r)) namings ++ drop (namings * sheet.now.words.w) store.old }
-{
-    let mut n = naming::first(namings);
-    while n.number < n.count {
-        let r = n.number;
-        let at = r as usize * sheet.words.w;
-        fill_one(sheet, r, &mut store[at..], other, copy, todo, v, rest);
-        n = naming::advanced(n);
-    }
-}
-
-// The same, in room of N words for each store that rounds work in.
-fn book_with<const N: usize>(sheet: &Sheet<'_>, namings: u64, store: &mut [u64])
-    requires stores_bound { N ≤ 64 }
-    requires ready { Prepared sheet.now }
-    requires places { Placed sheet.now × ((sheet.now.words.w ≤ N) × (namings * sheet.now.words.w ≤ length store.old)) }
     ensures { store.new ≡ tables_by sheet.now.words.w (λ r t. elem t (survivors_of sheet.now r)) namings ++ drop (namings * sheet.now.words.w) store.old }
 {
     let mut other = [0u64; N];
@@ -67,20 +42,34 @@ fn book_with<const N: usize>(sheet: &Sheet<'_>, namings: u64, store: &mut [u64])
     let mut todo = [0u64; N];
     let mut v = [0u64; N];
     let mut rest = [0u64; N];
-    book_in(
-        sheet, namings, store, &mut other, &mut copy, &mut todo, &mut v, &mut rest,
-    )
+    let mut n = naming::first(namings);
+    // By hand: the naming in hand moves on by `naming::advanced`, a rule of the project.
+    while n.number < n.count {
+        let r = n.number;
+        let at = r as usize * sheet.words.w;
+        fill_one(
+            sheet,
+            r,
+            &mut store[at..],
+            &mut other,
+            &mut copy,
+            &mut todo,
+            &mut v,
+            &mut rest,
+        );
+        n = naming::advanced(n);
+    }
 }
 
-// The same. The room that rounds work in is cleared once for a book, and has the sheet's size.
+// The same, in room that has the sheet's size.
 pub fn fill_book(sheet: &Sheet<'_>, namings: u64, store: &mut [u64])
     requires ready { Prepared sheet.now }
     requires places { Placed sheet.now × ((sheet.now.words.w ≤ 64) × (namings * sheet.now.words.w ≤ length store.old)) }
     ensures { store.new ≡ tables_by sheet.now.words.w (λ r t. elem t (survivors_of sheet.now r)) namings ++ drop (namings * sheet.now.words.w) store.old }
 {
     if sheet.words.w <= 4 {
-        book_with::<4>(sheet, namings, store)
+        book_in::<4>(sheet, namings, store)
     } else {
-        book_with::<64>(sheet, namings, store)
+        book_in::<64>(sheet, namings, store)
     }
 }

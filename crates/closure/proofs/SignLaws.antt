@@ -58,12 +58,6 @@ closure-until (suc (suc zero)) b A p q = closure-strong (not b) A p q
 closure-until (suc (suc (suc zero))) b A p q = closure-plain (not b) A p q
 closure-until (suc (suc (suc (suc o)))) b A p q = closure-plain b A p q
 
--- ---- the operators of two operands
-
-module _ {tab : List ℕ} {n : ℕ} {tab' : List ℕ} {a : Option Added} (b : Bool) (A : ℕ) (p q : Form) where
-  pub until-is : (o k : ℕ) → o ≡ k → Answer tab n tab' (spine (until_form k b A p q)) (until_form k b A p q) a → Answer tab n tab' (spine (until_form o b A p q)) (until_form o b A p q) a
-  until-is o k e w = subst (λ x. Answer tab n tab' (spine (until_form x b A p q)) (until_form x b A p q) a) (sym e) w
-
 -- ---- symbols
 
 module _ {tab : List ℕ} {n : ℕ} (r : Ready tab n) {k : ℕ} (h : k < 65536) where

@@ -3,7 +3,7 @@ use mathlib.Core.Path.{◌≡◌, refl, sym, ap, ap₂, ◌∙◌, subst}
 use mathlib.Core.Bool.{Bool, true, false}
 use mathlib.Core.List.Memᴰ
 use mathlib.Core.List.{List, [], ◌∷◌, ◌++◌}
-use Prim.Native.Nat.{ℕ, ◌+◌, ◌-◌, ◌/◌, ◌%◌, ◌^◌, ◌<◌}
+use Prim.Native.Nat.{ℕ, ◌+◌, ◌-◌, ◌/◌, ◌%◌, ◌^◌, ◌≤◌, ◌<◌}
 use native.Mathlib.Omega.{arith}
 use lib.ListN.{length, get_or, take}
 use Rattle.ctl.specs.Lists.{◌∈◌}
@@ -15,7 +15,7 @@ use Rattle.expansion.specs.Operators.{next_form, join_form, unit_form, join_all,
 use Rattle.members.specs.ModeLists.{modes_from}
 use Rattle.members.proofs.StepLaws.{sub-cons, sub-one, sub-both, answer-is, answer-same, answer-then, done-then, done_at, ready-then, full-then, full-more, was-full, sub-eq, first-full, rest-full, rest-still}
 use Rattle.expansion.proofs.NextLaws.{spine-one, all_one, spine-more, all_more, next-spine}
-use Rattle.members.proofs.ModeListLaws.{modes-skip, modes-put, modes-none, modes-some, half-below}
+use Rattle.members.proofs.ModeListLaws.{modes-skip, modes-put, modes-none, modes-some, mode-below, half-below}
 use Rattle.members.specs.declared.Added.{Added}
 use Rattle.std.proofs.Common.{Option, Some, None}
 
@@ -34,18 +34,32 @@ module _ (tab : List ℕ) (n : ℕ) (b : Bool) (m rest : ℕ) (p : Form) where
   abbrev later : List Form
   later = each_of b (modes_from (m + 1) (rest / 2)) p
 
-  pub each-skip : {tab' : List ℕ} {a : Option Added} → m < 16 → rest % 2 ≡ 0 → Answer tab n tab' (join_spine b later) (join_all b later) a → Want tab' a
-  each-skip {tab'} {a} h e w = subst (λ ms. Answer tab n tab' (join_spine b (each_of b ms p)) (join_all b (each_of b ms p)) a) (sym (modes-skip m rest h e)) w
+  -- rest has the bits of modes from m on, and one of them
+  abbrev Some_left : Type 0
+  Some_left = (m ≤ 16) × ((0 < rest) × (rest < 2 ^ (16 - m)))
 
-  pub each_last : {tab' : List ℕ} {a : Option Added} (B : ℕ) → m < 16 → rest ≡ 1 → B ≡ 2 ^ m → Answer tab n tab' (next_form b B p ∷ []) (next_form b B p) a → Want tab' a
-  each_last {tab'} {a} B h e i w =
+  pub each-skip : {tab' : List ℕ} {a : Option Added} → Some_left → rest % 2 ≡ 0 → Answer tab n tab' (join_spine b later) (join_all b later) a → Want tab' a
+  each-skip {tab'} {a} h e w = subst (λ ms. Answer tab n tab' (join_spine b (each_of b ms p)) (join_all b (each_of b ms p)) a) (sym (modes-skip m rest (mode-below m rest h.0 h.1.0 h.1.1) e)) w
+
+  pub each_last : {tab' : List ℕ} {a : Option Added} (B : ℕ) → Some_left → rest ≡ 1 → B ≡ 2 ^ m → Answer tab n tab' (next_form b B p ∷ []) (next_form b B p) a → Want tab' a
+  each_last {tab'} {a} B x e i w =
+      let h = mode-below m rest x.0 x.1.0 x.1.1 in
       let ms : modes_from m rest ≡ m ∷ [] = modes-put m rest h (omega arith) ∙ ap (λ l. m ∷ l) (modes-none (m + 1) (rest / 2) (omega arith)) in
       let f = next_form b (2 ^ m) p in
       let w' = answer-is (ap (λ x. next_form b x p) i) w in
       subst (λ ms. Answer tab n tab' (join_spine b (each_of b ms p)) (join_all b (each_of b ms p)) a) (sym ms)
       (subst (λ l. Answer tab n tab' l (join_all b (f ∷ [])) a) (sym (spine-one b f)) (subst (λ x. Answer tab n tab' (f ∷ []) x a) (sym (all_one b f)) w'))
 
-  module _ (h : m < 16) (odd : rest % 2 ≡ 1) (more : 1 < rest) (small : rest < 2 ^ (16 - m)) where
+  module _ (x : Some_left) (not-even : rest % 2 ≡ 0 → ⊥) (not-one : rest ≡ 1 → ⊥) where
+    h : m < 16
+    h = mode-below m rest x.0 x.1.0 x.1.1
+
+    odd : rest % 2 ≡ 1
+    odd = omega arith
+
+    more : 1 < rest
+    more = let k = x.1.0 in omega arith
+
     abbrev F : Form
     F = next_form b (2 ^ m) p
 
@@ -57,14 +71,14 @@ module _ (tab : List ℕ) (n : ℕ) (b : Bool) (m rest : ℕ) (p : Form) where
 
     spine-is : join_spine b (each_of b (modes_from m rest) p) ≡ join_form b F J ∷ (F ∷ S)
     spine-is =
-        let s = modes-some (m + 1) (rest / 2) (omega arith) (half-below m rest h small) in
+        let s = modes-some (m + 1) (rest / 2) (omega (arith, more)) (half-below m rest h x.1.1) in
         let e : each_of b (modes_from (m + 1) (rest / 2)) p ≡ each_of b (s.0 ∷ s.1) p = ap (λ ms. each_of b ms p) s.2 in
         ap (λ ms. join_spine b (each_of b ms p)) (modes-put m rest h odd ∙ ap (λ l. m ∷ l) s.2) ∙ spine-more b F (next_form b (2 ^ s.0) p) (each_of b s.1 p)
         ∙ sym (ap (λ l. join_form b F (join_all b l) ∷ (F ∷ join_spine b l)) e)
 
     all-is : join_all b (each_of b (modes_from m rest) p) ≡ join_form b F J
     all-is =
-        let s = modes-some (m + 1) (rest / 2) (omega arith) (half-below m rest h small) in
+        let s = modes-some (m + 1) (rest / 2) (omega (arith, more)) (half-below m rest h x.1.1) in
         let e : each_of b (modes_from (m + 1) (rest / 2)) p ≡ each_of b (s.0 ∷ s.1) p = ap (λ ms. each_of b ms p) s.2 in
         ap (λ ms. join_all b (each_of b ms p)) (modes-put m rest h odd ∙ ap (λ l. m ∷ l) s.2) ∙ all_more b F (next_form b (2 ^ s.0) p) (each_of b s.1 p)
         ∙ sym (ap (λ l. join_form b F (join_all b l)) e)

@@ -2,8 +2,9 @@
 use mathlib.Core.Path.{◌≡◌}
 use mathlib.Core.Bool.{Bool, true, false, cond}
 use mathlib.Core.List.{List}
-use Prim.Native.Nat.{ℕ, ◌+◌, ◌≤◌, ◌<◌}
+use Prim.Native.Nat.{ℕ, ◌+◌, ◌≤◌, ◌<◌, min}
 use native.Mathlib.Numerals.{add-one}
+use native.Mathlib.Decide.{dec_lt}
 use native.Mathlib.Omega.{arith}
 use lib.Dec.{eqb}
 use lib.ListN.{length, get_or, drop, set, drop_of_length-le}
@@ -23,10 +24,15 @@ module _ (xs ks tab : List ℕ) (i : ℕ) where
   unfolding declare
   declare-more h k p e = rw (drop-cons xs i 0 h, drop-cons ks i 0 k, add-one i, e)
 
-  pub declare-out : i < length xs → length ks ≤ i → declare i (drop i xs) (drop i ks) tab ≡ tab
-  unfolding declare
-  declare-out h k = rw (drop-cons xs i 0 h, drop_of_length-le ks k)
-
-  pub declare-end : length xs ≤ i → declare i (drop i xs) (drop i ks) tab ≡ tab
+  declare-end : length xs ≤ i → declare i (drop i xs) (drop i ks) tab ≡ tab
   unfolding declare
   declare-end h = rw (drop_of_length-le xs h)
+
+  -- past the last symbol that has a kind
+  pub declare-stop : min (length xs) (length ks) ≤ i → declare i (drop i xs) (drop i ks) tab ≡ tab
+  unfolding declare
+  declare-stop h = go (dec_lt i (length xs))
+    where
+      go : Dec (i < length xs) → declare i (drop i xs) (drop i ks) tab ≡ tab
+      go (yes l) = let k : length ks ≤ i = omega arith in rw (drop-cons xs i 0 l, drop_of_length-le ks k)
+      go (no n) = declare-end (omega arith)

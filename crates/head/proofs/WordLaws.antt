@@ -1,15 +1,17 @@
 -- Laws of the words of lines 1 and 2. Assumes nothing.
 use mathlib.Core.Path.{◌≡◌, refl, sym, ap, ◌∙◌}
 use mathlib.Core.Bool.{Bool, true, false, cond, ◌&&◌, false≢true}
-use mathlib.Core.List.{List, [], ◌∷◌, ◌++◌}
+use mathlib.Core.List.{List, [], ◌∷◌, ◌++◌, map}
 use Prim.Native.Nat.{ℕ, suc, ◌+◌, ◌-◌, ◌≤◌, ◌<◌}
 use native.Mathlib.Numerals.{add-one}
 use native.Mathlib.Omega.{arith}
-use lib.Dec.{ltb}
-use lib.ListN.{length, get_or, take, drop, set, drop_of_length-le, length-drop, length-set}
-use lib.Seq.{drop-cons, take-suc-set, length-take-le, take_all}
-use borrow.Author.Tests.{eq-eqb, ne_eqb, lt-ltb, le-ltb, ltb-true, ltb-false}
-use Rattle.spelling.specs.Spelling.{spelled}
+use lib.Dec.{eqb, ltb}
+use lib.ListN.{length, take, drop, set, length-drop, length-set}
+use lib.Seq.{take-suc-set, length-take-le, take_all}
+use borrow.Author.Tests.{lt-ltb, le-ltb, ltb-true, ltb-false}
+use Rattle.std.specs.List.{count_by}
+use Rattle.std.proofs.lemmas.List.Recursion.{is_count_by}
+use Rattle.spelling.specs.Spelling.{spelled, word}
 use Rattle.spelling.proofs.SpellingLaws.{Spelled, spelled_is}
 use Rattle.layout.specs.Text.{part, end_of, split}
 use Rattle.head.specs.Head.{space, word_right, name_count, kind_of, kind_right, kinds_from, kinds_of}
@@ -60,9 +62,9 @@ pub record Collecting (right : List ℕ → List ℕ → Bool) (value : List ℕ
   pub are : collect right value (take n l) (split space (drop at line)) ≡ all
 
 module _ {right : List ℕ → List ℕ → Bool} {value : List ℕ → ℕ} {line all l : List ℕ} {n at e : ℕ} (p : Collecting right value line all l n at) (is : e ≡ end_of space line at) (within : e ≤ length line) where
-  pub collect-wrong : right (take n l) (part line at e) ≡ false → [] ≡ all
+  pub collect-wrong : right (take n l) (part line at e) ≡ false → all ≡ []
   unfolding collect
-  collect-wrong r = sym (rw (first space line at e is p.inside within, r)) ∙ p.are
+  collect-wrong r = sym p.are ∙ rw (first space line at e is p.inside within, r)
 
   module _ (right-few : (seen w : List ℕ) → right seen w ≡ true → length seen < 8) (r : right (take n l) (part line at e) ≡ true) where
     pub collect-room : n < 8
@@ -87,17 +89,9 @@ module _ {right : List ℕ → List ℕ → Bool} {value : List ℕ → ℕ} {li
           }
 
 -- ---- the kinds
-pub count-name : (ks : List ℕ) (i : ℕ) → i < length ks → get_or ks i 0 ≡ 2 → name_count (drop i ks) ≡ suc (name_count (drop (i + 1) ks))
+pub name-count : (ks : List ℕ) → name_count ks ≡ count_by (λ k. eqb k 2) ks
 unfolding name_count
-count-name ks i h e = rw (drop-cons ks i 0 h, eq-eqb _ _ e, add-one i)
-
-pub skip-name : (ks : List ℕ) (i : ℕ) → i < length ks → (get_or ks i 0 ≡ 2 → ⊥) → name_count (drop i ks) ≡ name_count (drop (i + 1) ks)
-unfolding name_count
-skip-name ks i h ne = rw (drop-cons ks i 0 h, ne_eqb _ _ ne, add-one i)
-
-pub end-name : (ks : List ℕ) (i : ℕ) → length ks ≤ i → name_count (drop i ks) ≡ 0
-unfolding name_count
-end-name ks i h = rw (drop_of_length-le ks h)
+name-count = is_count_by name_count (λ k. eqb k 2) refl (λ k ks. let z : suc (name_count ks) ≡ 1 + name_count ks = omega arith in ap (λ n. cond (eqb k 2) n (name_count ks)) z)
 
 -- a word that may follow the kinds seen
 abbrev pub kind_fits : List ℕ → List ℕ → Bool
@@ -117,6 +111,11 @@ unfolding kinds_of
 kinds-collected line = kinds-from (split space line) []
 
 -- ---- the words of line 1
+-- no numbers, no words
+pub none-of : (ws : List (List ℕ)) → map word ws ≡ [] → ws ≡ []
+none-of [] e = refl
+none-of (w ∷ ws) e = absurd (let z : ◌≡◌ {A = ℕ} 0 1 = cc in omega arith)
+
 pub word-few : (seen w : List ℕ) → word_right seen w ≡ true → length seen < 8
 unfolding word_right
 word-few seen w e = ltb-true _ _ (and-snd (spelled w) _ (and-fst _ _ e))

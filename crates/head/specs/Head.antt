@@ -1,8 +1,10 @@
 -- Lines 1 and 2 of a sheet: the symbols' spellings and kinds, the refusals 4 and 5, and the declarations. Assumes nothing: these are definitions.
-use Rattle.std.specs.Prelude.{◌≡◌, Bool, false, cond, not, ◌&&◌, ◌||◌, List, [], ◌∷◌, ◌++◌, map, ℕ, suc, ◌+◌, ◌≤◌, length, take, drop, set, replicate, ltb, eqb}
+use Rattle.std.specs.Prelude.{◌≡◌, Bool, false, cond, not, ◌&&◌, ◌||◌, List, [], ◌∷◌, ◌++◌, map, ℕ, suc, ◌+◌, ◌≤◌, length, take, drop, set, replicate, ltb, eqb, Option, Some, None, Result, Ok, Err}
 use Rattle.head.specs.declared.names.Names.{Names}
 use Rattle.head.specs.declared.kinds.Kinds.{Kinds}
 use Rattle.head.specs.declared.Head.{Head}
+use Rattle.refusal.specs.declared.Refusal.{Refusal}
+use Rattle.refusal.specs.Number.{number_of}
 use Rattle.spelling.specs.Spelling.{spelled, word}
 use Rattle.layout.specs.Text.{split, same, has}
 use Rattle.layout.specs.Layout.{lines, lines_from, line_of, length_wrong, byte_wrong, layout_right}
@@ -32,11 +34,17 @@ names_from seen (w ∷ ws) = cond (name_right seen w) (names_from (seen ++ (w �
 unfoldable pub names_of : List ℕ → List (List ℕ)
 names_of line = names_from [] (split space line)
 
--- what a reader of line 1 answers: the spellings as words, in an array of 8
-pub record NamesRead (line : List ℕ) (r : Names) : Type 0 where
+-- the spellings of line 1, as words in an array of 8
+pub record NamesAre (line : List ℕ) (r : Names) : Type 0 where
+  pub some : 1 ≤ r.count
   pub few : r.count ≤ 8
   pub room : length r.words ≡ 8
   pub are : take r.count r.words ≡ map word (names_of line)
+
+-- what a reader of line 1 answers: none where the line is wrong
+abbrev pub NamesRead : List ℕ → Option Names → Type 0
+NamesRead line None = names_of line ≡ []
+NamesRead line (Some r) = NamesAre line r
 
 -- ---- 5, kinds: line 2 has as many words, each `mark`, `name`, `field` or `value`, at most two of them `name`
 -- a word's kind: 1 mark, 2 name, 3 field, 4 value, 0 none
@@ -72,11 +80,17 @@ kinds_from seen (w ∷ ws) = cond (kind_right seen (kind_of w)) (kinds_from (see
 unfoldable pub kinds_of : List ℕ → List ℕ
 kinds_of line = kinds_from [] (split space line)
 
--- what a reader of line 2 answers: the kinds, in an array of 8
-pub record KindsRead (line : List ℕ) (r : Kinds) : Type 0 where
+-- the kinds of line 2, in an array of 8
+pub record KindsAre (line : List ℕ) (r : Kinds) : Type 0 where
+  pub some : 1 ≤ r.count
   pub few : r.count ≤ 8
   pub room : length r.kinds ≡ 8
   pub are : take r.count r.kinds ≡ kinds_of line
+
+-- what a reader of line 2 answers: none where the line is wrong
+abbrev pub KindsRead : List ℕ → Option Kinds → Type 0
+KindsRead line None = kinds_of line ≡ []
+KindsRead line (Some r) = KindsAre line r
 
 -- ---- the symbols
 -- the symbols' spellings and kinds, in line 1 order
@@ -109,7 +123,7 @@ declare i (x ∷ xs) (k ∷ ks) tab = declare (suc i) xs ks (set tab (place_of i
 unfoldable pub declared : List ℕ → List ℕ → List ℕ
 declared xs ks = declare 0 xs ks (replicate 16 0)
 
--- what a reader of lines 1 and 2 answers
+-- lines 1 and 2 of a sheet that none of the refusals 1 to 5 applies to
 pub record Accepted (s : List ℕ) (r : Head) : Type 0 where
   pub count : r.count ≡ length (spellings s)
   pub few : r.count ≤ 8
@@ -121,6 +135,7 @@ pub record Accepted (s : List ℕ) (r : Head) : Type 0 where
   pub short : length s ≤ 1024
   pub bounded : length (lines s) ≤ 7
 
-pub record HeadRead (s : List ℕ) (r : Head) : Type 0 where
-  pub is : r.refusal ≡ layout_refusal s
-  pub then : r.refusal ≡ 0 → Accepted s r
+-- what a reader of lines 1 and 2 answers: what they say, or the lowest of the refusals 1 to 5
+abbrev pub HeadRead : List ℕ → Result Head Refusal → Type 0
+HeadRead s (Ok h) = (layout_refusal s ≡ 0) × Accepted s h
+HeadRead s (Err e) = layout_refusal s ≡ number_of e

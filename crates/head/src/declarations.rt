@@ -19,13 +19,8 @@ pub fn declare(words: &[u64], kinds: &[u8]) -> [u64; 16]
     ensures { result ≡ declared words.now kinds.now }
 {
     let mut tab = [0u64; 16];
-    let mut i: usize = 0;
-    while i < words.len() {
-        if kinds.len() <= i {
-            return tab;
-        }
+    for i in 0..words.len().min(kinds.len()) {
         tab[place_of(i, kinds[i])] = words[i];
-        i += 1;
     }
     tab
 }

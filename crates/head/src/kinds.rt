@@ -28,15 +28,7 @@ pub fn kind_of(w: &[u8]) -> u8
 pub fn name_count(ks: &[u8]) -> usize
     ensures { result ≡ name_count ks.now }
 {
-    let mut n: usize = 0;
-    let mut i = 0;
-    while i < ks.len() {
-        if ks[i] == 2 {
-            n += 1;
-        }
-        i += 1;
-    }
-    n
+    ks.iter().filter(|&&k| k == 2).count()
 }
 
 // A kind may follow those seen.
@@ -55,40 +47,39 @@ pub fn kind_right(seen: &[u8], k: u8) -> bool
     true
 }
 
-// The symbols' kinds; none where line 2 is wrong.
+// The symbols' kinds: 1 to 8. The count stands beside an array since the project has no heap.
 #[derive(Clone, Copy)]
 pub struct Kinds {
     pub count: usize,
     pub kinds: [u8; 8],
 }
 
-// 5: the kinds of line 2.
-pub fn read_kinds(line: &[u8]) -> Kinds
+// 5: the kinds of line 2; none where it is wrong.
+pub fn read_kinds(line: &[u8]) -> Option<Kinds>
     ensures { KindsRead line.now result }
 {
-    let mut kinds = [0u8; 8];
-    let mut n: usize = 0;
+    let mut kinds = [0; 8];
+    let mut count = 0;
     let mut at = 0;
     loop {
-        let e = end_of(32, line, at);
+        let e = end_of(b' ', line, at);
         let k = kind_of(&line[at..e]);
-        if !kind_right(&kinds[..n], k) {
-            return Kinds { count: 0, kinds };
+        if !kind_right(&kinds[..count], k) {
+            return None;
         }
-        kinds[n] = k;
-        n += 1;
+        kinds[count] = k;
+        count += 1;
         if line.len() <= e {
-            return Kinds { count: n, kinds };
+            return Some(Kinds { count, kinds });
         }
         at = e + 1;
     }
 }
 
 // The kinds of the sheet's line 2.
-pub fn line_two(s: &[u8]) -> Kinds
+pub fn line_two(s: &[u8]) -> Option<Kinds>
     ensures { KindsRead (line_of s.now 1) result }
 {
     let at = next_line(s, 0);
-    let e = end_of(10, s, at);
-    read_kinds(&s[at..e])
+    read_kinds(&s[at..end_of(b'\n', s, at)])
 }

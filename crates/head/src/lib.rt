@@ -12,12 +12,11 @@ use declarations::declare;
 use kinds::line_two;
 use layout::{byte_wrong, layout_right, length_wrong, third_line};
 use names::line_one;
+use refusal::Refusal;
 
-// What lines 1 and 2 say, with the lowest of the refusals 1 to 5, 0 for none: the symbols' number, spellings as words, kinds and declarations, and
-// the place of the third line.
+// What lines 1 and 2 say: the symbols' number, spellings as words, kinds and declarations, and the place of the third line.
 #[derive(Clone, Copy)]
 pub struct Head {
-    pub refusal: u8,
     pub count: usize,
     pub words: [u64; 8],
     pub kinds: [u8; 8],
@@ -25,51 +24,35 @@ pub struct Head {
     pub from: usize,
 }
 
-pub fn refused(k: u8) -> Head
-    ensures { result.refusal ≡ k }
-{
-    Head {
-        refusal: k,
-        count: 0,
-        words: [0u64; 8],
-        kinds: [0u8; 8],
-        decl: [0u64; 16],
-        from: 0,
-    }
-}
-
-pub fn read_head(s: &[u8]) -> Head
+// The head, or the lowest of the refusals 1 to 5.
+pub fn read_head(s: &[u8]) -> Result<Head, Refusal>
     ensures { HeadRead s.now result }
 {
     if length_wrong(s) {
-        return refused(1);
+        return Err(Refusal::Length);
     }
     if byte_wrong(s) {
-        return refused(2);
+        return Err(Refusal::Byte);
     }
     if !layout_right(s) {
-        return refused(3);
+        return Err(Refusal::Layout);
     }
-    let names = line_one(s);
-    let n = names.count;
-    if n == 0 {
-        return refused(4);
+    let Some(names) = line_one(s) else {
+        return Err(Refusal::Names);
+    };
+    let Some(kinds) = line_two(s) else {
+        return Err(Refusal::Kinds);
+    };
+    let count = names.count;
+    if kinds.count != count {
+        return Err(Refusal::Kinds);
     }
-    let kinds = line_two(s);
-    let m = kinds.count;
-    if m != n {
-        return refused(5);
-    }
-    let ws = names.words;
-    let ks = kinds.kinds;
-    let decl = declare(&ws[..n], &ks[..n]);
-    let from = third_line(s);
-    Head {
-        refusal: 0,
-        count: n,
-        words: ws,
-        kinds: ks,
+    let decl = declare(&names.words[..count], &kinds.kinds[..count]);
+    Ok(Head {
+        count,
+        words: names.words,
+        kinds: kinds.kinds,
         decl,
-        from,
-    }
+        from: third_line(s),
+    })
 }

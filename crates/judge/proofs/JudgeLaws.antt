@@ -24,7 +24,7 @@ use Rattle.goal.specs.Goals.{first_of}
 use Rattle.tableau.proofs.TableWords.{start-ascend, start-below, survivors-list}
 use Rattle.tableau.specs.Matches.{Matches}
 use Rattle.tableau.proofs.TableauLaws.{surviving-types}
-use Rattle.judge.specs.Judged.{goals_at, Room, Judged, opens, closes, verdict_of}
+use Rattle.judge.specs.Judged.{goals_at, Judged, opens, closes, verdict_of}
 use Rattle.judge.specs.declared.Verdict.{Verdict}
 use Rattle.judge.specs.declared.Verdict.TheVariants.{Open, Unsatisfiable}
 
@@ -55,15 +55,6 @@ pub record Judging (goals : ℕ → List ℕ) (n r : ℕ) : Type 0 where
   pub within : r ≤ n
   pub none : (q : ℕ) → q < r → goals q ≡ []
 
--- the stores keep their lengths
-pub record Kept (first second copy todo v rest first' second' copy' todo' v' rest' : List ℕ) : Type 0 where
-  pub first-long : length first' ≡ length first
-  pub second-long : length second' ≡ length second
-  pub copy-long : length copy' ≡ length copy
-  pub todo-long : length todo' ≡ length todo
-  pub v-long : length v' ≡ length v
-  pub rest-long : length rest' ≡ length rest
-
 module _ {goals : ℕ → List ℕ} {n : ℕ} where
   pub judge-start : Judging goals n 0
   judge-start = record { within = omega arith; none = λ q h. absurd (omega arith) }
@@ -83,32 +74,6 @@ module _ {goals : ℕ → List ℕ} {n : ℕ} where
 
   pub judge-end : {r : ℕ} → Judging goals n r → n ≤ r → Judged goals n Unsatisfiable
   judge-end {r} j h = closes (λ q l. j.none q (omega arith))
-
--- ---- the stores keep their room
-
-pub room-kept : {w : ℕ} {first second copy todo v rest first' second' copy' todo' v' rest' : List ℕ} → Room w first second copy todo v rest → Kept first second copy todo v rest first' second' copy' todo' v' rest' → Room w first' second' copy' todo' v' rest'
-room-kept {w} r k = record {
-  first-room = subst (λ n. w ≤ n) (sym k.first-long) r.first-room;
-  second-room = subst (λ n. w ≤ n) (sym k.second-long) r.second-room;
-  copy-room = subst (λ n. w ≤ n) (sym k.copy-long) r.copy-room;
-  todo-room = subst (λ n. w ≤ n) (sym k.todo-long) r.todo-room;
-  v-room = subst (λ n. w ≤ n) (sym k.v-long) r.v-room;
-  rest-room = subst (λ n. w ≤ n) (sym k.rest-long) r.rest-room;
-}
-
-pub kept-start : {first second copy todo v rest : List ℕ} → Kept first second copy todo v rest first second copy todo v rest
-kept-start = record { first-long = refl; second-long = refl; copy-long = refl; todo-long = refl; v-long = refl; rest-long = refl }
-
-pub kept_more : {first second copy todo v rest first' second' copy' todo' v' rest' first'' second'' copy'' todo'' v'' rest'' : List ℕ} → Kept first second copy todo v rest first' second' copy' todo' v' rest' → Kept first' second' copy' todo' v' rest' first'' second'' copy'' todo'' v'' rest''
-    → Kept first second copy todo v rest first'' second'' copy'' todo'' v'' rest''
-kept_more a b = record {
-  first-long = b.first-long ∙ a.first-long;
-  second-long = b.second-long ∙ a.second-long;
-  copy-long = b.copy-long ∙ a.copy-long;
-  todo-long = b.todo-long ∙ a.todo-long;
-  v-long = b.v-long ∙ a.v-long;
-  rest-long = b.rest-long ∙ a.rest-long;
-}
 
 -- ---- the verdict
 

@@ -21,16 +21,16 @@ pub enum Verdict {
     Unsatisfiable,
 }
 
-// Naming r, in room of N words for each store that its rounds work in.
-fn table_in<const N: usize>(
+// `table` in room of N words that is local.
+fn fill_in<const N: usize>(
     sheet: &Sheet<'_>,
     r: u64,
     first: &mut [u64],
     second: &mut [u64],
 ) -> Counts
-    requires stores_bound { N ≤ 64 }
     requires ready { Prepared sheet.now }
-    requires places { Placed sheet.now × ((sheet.now.words.w ≤ N) × ((sheet.now.words.w ≤ length first.old) × (sheet.now.words.w ≤ length second.old))) }
+    requires room { (sheet.now.words.w ≤ N) × (N ≤ 64) }
+    requires places { Placed sheet.now × ((sheet.now.words.w ≤ length first.old) × (sheet.now.words.w ≤ length second.old)) }
     ensures { Tabled (starts_of sheet.now r) (survivors_of sheet.now r) (rounds_of sheet.now r) sheet.now.words.w first.old second.old first.new second.new result }
 {
     let mut copy = [0u64; N];
@@ -42,16 +42,16 @@ fn table_in<const N: usize>(
     )
 }
 
-// Naming r: both stores then hold its surviving types. The room that its rounds work in is local, and has the sheet's size: a naming of a small sheet does not clear a large one's.
+// Naming r: both stores then hold its surviving types. The room that its rounds work in has the sheet's size: a naming of a small sheet does not clear a large one's.
 pub fn fill_table(sheet: &Sheet<'_>, r: u64, first: &mut [u64], second: &mut [u64]) -> Counts
     requires ready { Prepared sheet.now }
     requires places { Placed sheet.now × ((sheet.now.words.w ≤ 64) × ((sheet.now.words.w ≤ length first.old) × (sheet.now.words.w ≤ length second.old))) }
     ensures { Tabled (starts_of sheet.now r) (survivors_of sheet.now r) (rounds_of sheet.now r) sheet.now.words.w first.old second.old first.new second.new result }
 {
     if sheet.words.w <= 4 {
-        table_in::<4>(sheet, r, first, second)
+        fill_in::<4>(sheet, r, first, second)
     } else {
-        table_in::<64>(sheet, r, first, second)
+        fill_in::<64>(sheet, r, first, second)
     }
 }
 
@@ -78,28 +78,34 @@ fn try_naming(
     goal_type(sheet.ms, sheet.ln, words.w, words.tw, goal, first)
 }
 
-// The least naming under which a surviving type has the goal, with the least such type. The six stores are room to work in.
-fn judge_in(
-    sheet: &Sheet<'_>,
-    goal: usize,
-    namings: u64,
-    first: &mut [u64],
-    second: &mut [u64],
-    copy: &mut [u64],
-    todo: &mut [u64],
-    v: &mut [u64],
-    rest: &mut [u64],
-) -> Verdict
+// The least naming under which a surviving type has the goal, with the least such type. The room to work in has N words.
+fn judge_in<const N: usize>(sheet: &Sheet<'_>, goal: usize, namings: u64) -> Verdict
     requires ready { Prepared sheet.now }
-    requires room { Room sheet.now.words.w first.old second.old copy.old todo.old v.old rest.old }
+    requires room { (sheet.now.words.w ≤ N) × (N ≤ 64) }
     requires places { Placed sheet.now × (goal < length sheet.now.ms.now) }
     ensures { Judged (goals_of sheet.now goal) namings result }
 {
+    let mut first = [0u64; N];
+    let mut second = [0u64; N];
+    let mut copy = [0u64; N];
+    let mut todo = [0u64; N];
+    let mut v = [0u64; N];
+    let mut rest = [0u64; N];
     let mut n = naming::first(namings);
-    // By hand, as everywhere that goes from naming to naming: the naming in hand moves on by `naming::advanced`, a rule of the project, and no range stands for it.
+    // By hand: the naming in hand moves on by `naming::advanced`, a rule of the project.
     while n.number < n.count {
         let r = n.number;
-        let found = try_naming(sheet, goal, r, first, second, copy, todo, v, rest);
+        let found = try_naming(
+            sheet,
+            goal,
+            r,
+            &mut first,
+            &mut second,
+            &mut copy,
+            &mut todo,
+            &mut v,
+            &mut rest,
+        );
         if let Some(t) = found {
             return Verdict::Open {
                 naming: r,
@@ -111,32 +117,6 @@ fn judge_in(
     Verdict::Unsatisfiable
 }
 
-// The same, with stores of N words.
-fn judge_with<const N: usize>(sheet: &Sheet<'_>, goal: usize, namings: u64) -> Verdict
-    requires stores_bound { N ≤ 64 }
-    requires ready { Prepared sheet.now }
-    requires places { Placed sheet.now × ((sheet.now.words.w ≤ N) × (goal < length sheet.now.ms.now)) }
-    ensures { Judged (goals_of sheet.now goal) namings result }
-{
-    let mut first = [0u64; N];
-    let mut second = [0u64; N];
-    let mut copy = [0u64; N];
-    let mut todo = [0u64; N];
-    let mut v = [0u64; N];
-    let mut rest = [0u64; N];
-    judge_in(
-        sheet,
-        goal,
-        namings,
-        &mut first,
-        &mut second,
-        &mut copy,
-        &mut todo,
-        &mut v,
-        &mut rest,
-    )
-}
-
 // The same, in room that has the sheet's size.
 pub fn judge(sheet: &Sheet<'_>, goal: usize, namings: u64) -> Verdict
     requires ready { Prepared sheet.now }
@@ -144,8 +124,8 @@ pub fn judge(sheet: &Sheet<'_>, goal: usize, namings: u64) -> Verdict
     ensures { Judged (goals_of sheet.now goal) namings result }
 {
     if sheet.words.w <= 4 {
-        judge_with::<4>(sheet, goal, namings)
+        judge_in::<4>(sheet, goal, namings)
     } else {
-        judge_with::<64>(sheet, goal, namings)
+        judge_in::<64>(sheet, goal, namings)
     }
 }

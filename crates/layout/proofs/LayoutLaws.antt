@@ -2,12 +2,10 @@
 use mathlib.Core.Path.{◌≡◌}
 use mathlib.Core.Bool.{true, false}
 use mathlib.Core.List.{List}
-use Prim.Native.Nat.{ℕ, ◌-◌, ◌≤◌, ◌<◌}
-use native.Mathlib.Omega.{arith}
-use lib.ListN.{length, get_or, get_or-eq_default}
-use lib.Seq.{drop-drop}
+use Prim.Native.Nat.{ℕ, ◌≤◌, ◌<◌}
+use lib.ListN.{length, drop}
 use borrow.Author.Tests.{eq-eqb, ne_eqb, lt-ltb, le-ltb, le-leb, lt-leb}
-use Rattle.layout.specs.Layout.{parts, lines, lines_from, NextLine, any_long, length_wrong, starts_right, ends_right, layout_right}
+use Rattle.layout.specs.Layout.{parts, lines, lines_from, any_long, length_wrong, starts_right, ends_right, layout_right}
 
 -- ---- 1
 pub length-empty : (s : List ℕ) → length s ≡ 0 → length_wrong s ≡ true
@@ -23,23 +21,19 @@ unfolding length_wrong
 length-lines s ne h = rw (ne_eqb _ _ ne, le-ltb _ _ h)
 
 -- ---- 3
-pub layout-empty : (s : List ℕ) → length s ≡ 0 → layout_right s ≡ false
-unfolding layout_right ends_right
-layout-empty s e = rw (get_or-eq_default s 0 {n = length s - 1} (omega arith))
+pub layout-unended : (s : List ℕ) → ends_right s ≡ false → layout_right s ≡ false
+unfolding layout_right
+layout-unended s e = rw e
 
-pub layout-unended : (s : List ℕ) → (get_or s (length s - 1) 0 ≡ 10 → ⊥) → layout_right s ≡ false
-unfolding layout_right ends_right
-layout-unended s ne = rw (ne_eqb _ _ ne)
-
-module _ (s : List ℕ) (k : ℕ) (ends : get_or s (length s - 1) 0 ≡ 10) (is : k ≡ length (lines s)) where
+module _ (s : List ℕ) (k : ℕ) (ends : ends_right s ≡ true) (is : k ≡ length (lines s)) where
   pub layout-few : k < 3 → layout_right s ≡ false
-  unfolding layout_right ends_right
-  layout-few h = rw (eq-eqb _ _ ends, ← is, lt-leb _ _ h)
+  unfolding layout_right
+  layout-few h = rw (ends, ← is, lt-leb _ _ h)
 
   pub layout-many : 3 ≤ k → 7 < k → layout_right s ≡ false
-  unfolding layout_right ends_right
-  layout-many g h = rw (eq-eqb _ _ ends, ← is, le-leb _ _ g, lt-leb _ _ h)
+  unfolding layout_right
+  layout-many g h = rw (ends, ← is, le-leb _ _ g, lt-leb _ _ h)
 
-  pub layout-starts : (a b : ℕ) → NextLine s 0 a → NextLine s a b → 3 ≤ k → k ≤ 7 → layout_right s ≡ starts_right (lines_from s b)
-  unfolding layout_right ends_right
-  layout-starts a b n m g h = rw (eq-eqb _ _ ends, ← is, le-leb _ _ g, le-leb _ _ h, m.rest, n.rest, drop-drop)
+  pub layout-starts : (b : ℕ) → lines_from s b ≡ drop 2 (lines s) → 3 ≤ k → k ≤ 7 → layout_right s ≡ starts_right (lines_from s b)
+  unfolding layout_right
+  layout-starts b third g h = rw (ends, ← is, le-leb _ _ g, le-leb _ _ h, third)

@@ -2,7 +2,7 @@
 use mathlib.Core.Path.{◌≡◌}
 use mathlib.Core.Bool.{true, false}
 use mathlib.Core.List.{List, [], ◌∷◌}
-use Prim.Native.Nat.{ℕ, suc, ◌+◌, ◌≤◌, ◌<◌}
+use Prim.Native.Nat.{ℕ, ◌+◌, ◌≤◌, ◌<◌}
 use native.Mathlib.Omega.{arith}
 use lib.ListN.{length, drop, drop_of_length-le}
 use lib.Seq.{drop-drop}
@@ -31,13 +31,6 @@ module _ (s : List ℕ) (at e : ℕ) (is : e ≡ end_of newline s at) (inside : 
 
   pub next-end : length s ≤ e → e ≤ length s → NextLine s at e
   next-end h k = record { inside = k; rest = rw (none h, lines_end s e h); first = rw (cut-last newline s at inside (rw (← is) h), parts-end s e h) }
-
-  -- how many lines there are
-  pub count_next : e < length s → length (lines_from s at) ≡ suc (length (lines_from s (e + 1)))
-  count_next h = rw (more h)
-
-  pub count-last : length s ≤ e → length (lines_from s at) ≡ 0
-  count-last h = rw (none h)
 
   -- line starts
   pub starts_none : length s ≤ e → starts_right (lines_from s at) ≡ true

@@ -1,85 +1,84 @@
--- What each loop's test says of the rest of its text. Assumes nothing.
-use mathlib.Core.Path.{◌≡◌}
-use mathlib.Core.Bool.{true, false, or-false}
-use mathlib.Core.List.{List}
+-- What the library's methods and the loops' tests say of a text. Assumes nothing.
+use mathlib.Core.Path.{◌≡◌, refl, sym, ap, ap₂, ◌∙◌}
+use mathlib.Core.Bool.{Bool, true, false, cond, not, ◌&&◌, ◌||◌, or-false, and-true}
+use mathlib.Core.List.{List, [], ◌∷◌}
 use Prim.Native.Nat.{ℕ, zero, suc, ◌+◌, ◌-◌, ◌≤◌, ◌<◌}
-use native.Mathlib.Numerals.{add-one}
 use native.Mathlib.Omega.{arith}
 use native.Mathlib.Decide.{dec_le}
 use lib.ListN.{length, get_or, take, drop, length-drop, length-take, drop_of_length-le}
 use lib.Seq.{drop-cons}
-use lib.Dec.{ltb}
-use borrow.Author.Tests.{eq-eqb, ne_eqb, lt-ltb, le-ltb}
-use Rattle.layout.specs.Text.{part, upto, end_of, split, same, begins, has}
-use Rattle.layout.specs.Layout.{newline, any_long, byte_right, byte_wrong}
+use lib.Dec.{eqb, ltb}
+use borrow.Author.Tests.{eq-eqb, ne_eqb, eqb-true, eqb-false, lt-ltb, le-ltb}
+use Rattle.std.specs.List.{list_any, count_by, slice_split, starts_with, ends_with}
+use Rattle.std.specs.Cmp.Lexicographic.{pointwise}
+use Rattle.std.proofs.lemmas.List.Splits.{length-slice_split}
+use Rattle.layout.specs.Text.{part, upto, end_of, push, split, ended, same, begins, has}
+use Rattle.layout.specs.Layout.{newline, any_long, byte_right, byte_wrong, ends_right}
 use Rattle.layout.proofs.TextLaws.{split-last, split-next, cut-last, cut-next}
 
--- ---- a byte in a text
-module _ (b : ℕ) (s : List ℕ) (i : ℕ) where
-  pub has_here : i < length s → get_or s i 0 ≡ b → has b (drop i s) ≡ true
-  unfolding has
-  has_here h e = rw (drop-cons s i 0 h, eq-eqb _ _ e)
+-- ---- what the library's methods answer
+-- a byte in a text
+pub has-any : (b : ℕ) (s : List ℕ) → list_any (λ c. eqb c b) s ≡ has b s
+unfolding has
+has-any b [] = refl
+has-any b (c ∷ r) = ap (λ t. eqb c b || t) (has-any b r)
 
-  pub has-next : i < length s → (get_or s i 0 ≡ b → ⊥) → has b (drop (i + 1) s) ≡ has b (drop i s)
-  unfolding has
-  has-next h ne = rw (drop-cons s i 0 h, ne_eqb _ _ ne, add-one i)
+-- a byte that is neither printable nor a newline
+pub bad-any : (s : List ℕ) → list_any (λ b. not (byte_right b)) s ≡ byte_wrong s
+unfolding byte_wrong
+bad-any [] = refl
+bad-any (b ∷ r) = ap (λ t. not (byte_right b) || t) (bad-any r)
 
-  pub has_end : length s ≤ i → has b (drop i s) ≡ false
-  unfolding has
-  has_end h = rw (drop_of_length-le s h)
+-- two texts compared
+pub same-is : (a b : List ℕ) → pointwise eqb a b ≡ same a b
+unfolding same
+same-is [] [] = refl
+same-is [] (d ∷ q) = refl
+same-is (c ∷ r) [] = refl
+same-is (c ∷ r) (d ∷ q) = ap (λ t. eqb c d && t) (same-is r q)
 
--- ---- bytes
-module _ (s : List ℕ) (i : ℕ) where
-  pub bad-here : i < length s → byte_right (get_or s i 0) ≡ false → byte_wrong (drop i s) ≡ true
-  unfolding byte_wrong
-  bad-here h e = rw (drop-cons s i 0 h, e)
+-- the parts of a text between its b's
+pub split-is : (b : ℕ) (s : List ℕ) → slice_split (λ c. eqb c b) s ≡ split b s
+unfolding split
+split-is b [] = refl
+split-is b (c ∷ r) = ap (λ t. cond (eqb c b) ([] ∷ t) (push c t)) (split-is b r)
 
-  pub bad-next : i < length s → byte_right (get_or s i 0) ≡ true → byte_wrong (drop (i + 1) s) ≡ byte_wrong (drop i s)
-  unfolding byte_wrong
-  bad-next h e = rw (drop-cons s i 0 h, e, add-one i)
+-- the lines that a newline ends are as many as there are newlines
+ended-less : (ps : List (List ℕ)) → length (ended ps) ≡ length ps - 1
+unfolding ended
+ended-less [] = refl
+ended-less (l ∷ []) = refl
+ended-less (l ∷ m ∷ ms) = let h = ended-less (m ∷ ms) in omega arith
 
-  pub bad-end : length s ≤ i → byte_wrong (drop i s) ≡ false
-  unfolding byte_wrong
-  bad-end h = rw (drop_of_length-le s h)
+pub lines-count : (s : List ℕ) → count_by (λ b. eqb b newline) s ≡ length (ended (split newline s))
+lines-count s =
+    let h = length-slice_split (λ b. eqb b newline) s in
+    let e : length (slice_split (λ b. eqb b newline) s) ≡ length (split newline s) = ap length (split-is newline s) in
+    omega (arith, ended-less (split newline s))
 
--- ---- two texts
-module _ (a b : List ℕ) (i : ℕ) where
-  pub same-short : i < length a → length b ≤ i → same (drop i a) (drop i b) ≡ false
-  unfolding same
-  same-short h k = rw (drop-cons a i 0 h, drop_of_length-le b k)
+eqb-comm : (c d : ℕ) → eqb d c ≡ eqb c d
+eqb-comm c d = go (eqb d c) refl
+  where
+    go : (t : Bool) → eqb d c ≡ t → t ≡ eqb c d
+    go true e = sym (eq-eqb c d (sym (eqb-true d c e)))
+    go false e = sym (ne_eqb c d (λ q. eqb-false d c e (sym q)))
 
-  pub same_not : i < length a → i < length b → (get_or a i 0 ≡ get_or b i 0 → ⊥) → same (drop i a) (drop i b) ≡ false
-  unfolding same
-  same_not h k ne = rw (drop-cons a i 0 h, drop-cons b i 0 k, ne_eqb _ _ ne)
+-- a text that begins with another
+pub begins-is : (s p : List ℕ) → starts_with eqb s p ≡ begins s p
+unfolding begins
+begins-is s [] = refl
+begins-is [] (d ∷ q) = refl
+begins-is (c ∷ r) (d ∷ q) = ap₂ ◌&&◌ (eqb-comm c d) (begins-is r q)
 
-  pub same_next : i < length a → i < length b → get_or a i 0 ≡ get_or b i 0 → same (drop (i + 1) a) (drop (i + 1) b) ≡ same (drop i a) (drop i b)
-  unfolding same
-  same_next h k e = rw (drop-cons a i 0 h, drop-cons b i 0 k, eq-eqb _ _ e, add-one i)
-
-  pub same-long : length a ≤ i → i < length b → same (drop i a) (drop i b) ≡ false
-  unfolding same
-  same-long h k = rw (drop_of_length-le a h, drop-cons b i 0 k)
-
-  pub same_end : length a ≤ i → length b ≤ i → same (drop i a) (drop i b) ≡ true
-  unfolding same
-  same_end h k = rw (drop_of_length-le a h, drop_of_length-le b k)
-
-module _ (s p : List ℕ) (i : ℕ) where
-  pub begins-short : i < length p → length s ≤ i → begins (drop i s) (drop i p) ≡ false
-  unfolding begins
-  begins-short h k = rw (drop-cons p i 0 h, drop_of_length-le s k)
-
-  pub begins-not : i < length p → i < length s → (get_or s i 0 ≡ get_or p i 0 → ⊥) → begins (drop i s) (drop i p) ≡ false
-  unfolding begins
-  begins-not h k ne = rw (drop-cons p i 0 h, drop-cons s i 0 k, ne_eqb _ _ ne)
-
-  pub begins-next : i < length p → i < length s → get_or s i 0 ≡ get_or p i 0 → begins (drop (i + 1) s) (drop (i + 1) p) ≡ begins (drop i s) (drop i p)
-  unfolding begins
-  begins-next h k e = rw (drop-cons p i 0 h, drop-cons s i 0 k, eq-eqb _ _ e, add-one i)
-
-  pub begins-end : length p ≤ i → begins (drop i s) (drop i p) ≡ true
-  unfolding begins
-  begins-end h = rw (drop_of_length-le p h)
+-- a text that ends with a newline
+pub ends-is : (s : List ℕ) → ends_with eqb s (newline ∷ []) ≡ ends_right s
+unfolding ends_right
+ends-is [] = refl
+ends-is (c ∷ r) =
+    let s = c ∷ r in
+    let n : ℕ = length s - 1 in
+    let e : drop n s ≡ get_or s n 0 ∷ [] = drop-cons s n 0 (omega arith) ∙ ap (λ t. get_or s n 0 ∷ t) (drop_of_length-le s {i = suc n} (omega arith)) in
+    ap (pointwise eqb (newline ∷ [])) e ∙ and-true (eqb newline (get_or s n 0)) ∙ eqb-comm (get_or s n 0) newline
 
 -- ---- lines over 200
 pub part_length : (s : List ℕ) (a e : ℕ) → e ≤ length s → length (part s a e) ≡ e - a

@@ -13,7 +13,7 @@ pub fn any_long(s: &[u8]) -> bool
     }
     let mut at = 0;
     while at < s.len() {
-        let e = end_of(10, s, at);
+        let e = end_of(b'\n', s, at);
         if s.len() <= e {
             return 200 < e - at;
         }
@@ -43,25 +43,12 @@ pub fn length_wrong(s: &[u8]) -> bool
 pub fn byte_right(b: u8) -> bool
     ensures { result ≡ byte_right b }
 {
-    if b == 10 {
-        return true;
-    }
-    if b < 32 {
-        return false;
-    }
-    b <= 126
+    b == b'\n' || (b' ' <= b && b <= b'~')
 }
 
 // 2: a byte that is neither printable nor a newline.
 pub fn byte_wrong(s: &[u8]) -> bool
     ensures { result ≡ byte_wrong s.now }
 {
-    let mut i = 0;
-    while i < s.len() {
-        if !byte_right(s[i]) {
-            return true;
-        }
-        i += 1;
-    }
-    false
+    s.iter().any(|&b| !byte_right(b))
 }

@@ -11,7 +11,7 @@ pub fn text_at(s: &[u8], at: usize, e: usize) -> usize
     requires { (at ≤ e) × ((e < length s.now) × (e ≡ end_of 10 s.now at)) }
     ensures { TextAt s.now at e result }
 {
-    let after = end_of(10, s, e + 1);
+    let after = end_of(b'\n', s, e + 1);
     if s.len() <= after {
         if e - at < 5 {
             return e;
@@ -39,7 +39,7 @@ pub fn last_text(s: &[u8], from: usize) -> Span
     let mut start: usize = 0;
     let mut end: usize = 0;
     while at < s.len() {
-        let e = end_of(10, s, at);
+        let e = end_of(b'\n', s, at);
         if s.len() <= e {
             return Span { start, end };
         }

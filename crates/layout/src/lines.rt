@@ -9,7 +9,7 @@ pub fn next_line(s: &[u8], at: usize) -> usize
     requires { at ≤ length s.now }
     ensures { NextLine s.now at result }
 {
-    let e = end_of(10, s, at);
+    let e = end_of(b'\n', s, at);
     if e < s.len() {
         return e + 1;
     }
@@ -20,17 +20,7 @@ pub fn next_line(s: &[u8], at: usize) -> usize
 pub fn count_lines(s: &[u8]) -> usize
     ensures { result ≡ length (lines s.now) }
 {
-    let mut n: usize = 0;
-    let mut at = 0;
-    while at < s.len() {
-        let e = end_of(10, s, at);
-        if s.len() <= e {
-            return n;
-        }
-        n += 1;
-        at = e + 1;
-    }
-    n
+    s.iter().filter(|&&b| b == b'\n').count()
 }
 
 // The beginning of the third line.

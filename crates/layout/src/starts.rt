@@ -1,22 +1,9 @@
 // The refusal 3: how each line starts, and how the sheet ends. Assumes nothing.
 ghost use Rattle.std.specs.Prelude.{◌≡◌};
-ghost use Rattle.layout.specs.Text.{begins};
-ghost use Rattle.layout.specs.Layout.{lines_from, all_word, goal_word, starts_right, layout_right};
+ghost use Rattle.layout.specs.Layout.{lines_from, starts_right, layout_right};
 
-use crate::lines::{count_lines, next_line};
+use crate::lines::{count_lines, third_line};
 use crate::text::{begins_with, end_of};
-
-pub fn all_start(line: &[u8]) -> bool
-    ensures { result ≡ begins line.now all_word }
-{
-    begins_with(line, b"all ")
-}
-
-pub fn goal_start(line: &[u8]) -> bool
-    ensures { result ≡ begins line.now goal_word }
-{
-    begins_with(line, b"goal ")
-}
 
 // The lines from a line's beginning on start with `all `, the last one with `goal `.
 pub fn starts_right(s: &[u8], from: usize) -> bool
@@ -26,13 +13,13 @@ pub fn starts_right(s: &[u8], from: usize) -> bool
         return true;
     }
     let mut at = from;
-    let mut e = end_of(10, s, from);
+    let mut e = end_of(b'\n', s, from);
     while e < s.len() {
-        let after = end_of(10, s, e + 1);
+        let after = end_of(b'\n', s, e + 1);
         if s.len() <= after {
-            return goal_start(&s[at..e]);
+            return begins_with(&s[at..e], b"goal ");
         }
-        if !all_start(&s[at..e]) {
+        if !begins_with(&s[at..e], b"all ") {
             return false;
         }
         at = e + 1;
@@ -45,11 +32,7 @@ pub fn starts_right(s: &[u8], from: usize) -> bool
 pub fn layout_right(s: &[u8]) -> bool
     ensures { result ≡ layout_right s.now }
 {
-    let n = s.len();
-    if n == 0 {
-        return false;
-    }
-    if s[n - 1] != 10 {
+    if !s.ends_with(b"\n") {
         return false;
     }
     let k = count_lines(s);
@@ -59,6 +42,5 @@ pub fn layout_right(s: &[u8]) -> bool
     if 7 < k {
         return false;
     }
-    let second = next_line(s, 0);
-    starts_right(s, next_line(s, second))
+    starts_right(s, third_line(s))
 }

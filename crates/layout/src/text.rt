@@ -7,63 +7,31 @@ pub fn end_of(b: u8, s: &[u8], at: usize) -> usize
     requires { at ≤ length s.now }
     ensures { (result ≡ end_of b s.now at) × ((at ≤ result) × (result ≤ length s.now)) }
 {
-    let mut i = at;
-    while i < s.len() {
+    for i in at..s.len() {
         if s[i] == b {
             return i;
         }
-        i += 1;
     }
-    i
+    s.len()
 }
 
 // Two texts are the same.
 pub fn same_text(a: &[u8], b: &[u8]) -> bool
     ensures { result ≡ same a.now b.now }
 {
-    let mut i = 0;
-    while i < a.len() {
-        if b.len() <= i {
-            return false;
-        }
-        if a[i] != b[i] {
-            return false;
-        }
-        i += 1;
-    }
-    if i < b.len() {
-        return false;
-    }
-    true
+    a == b
 }
 
 // A text begins with another.
 pub fn begins_with(s: &[u8], p: &[u8]) -> bool
     ensures { result ≡ begins s.now p.now }
 {
-    let mut i = 0;
-    while i < p.len() {
-        if s.len() <= i {
-            return false;
-        }
-        if s[i] != p[i] {
-            return false;
-        }
-        i += 1;
-    }
-    true
+    s.starts_with(p)
 }
 
 // A byte is in a text.
 pub fn has_byte(b: u8, s: &[u8]) -> bool
     ensures { result ≡ has b s.now }
 {
-    let mut i = 0;
-    while i < s.len() {
-        if s[i] == b {
-            return true;
-        }
-        i += 1;
-    }
-    false
+    s.contains(&b)
 }

@@ -2,6 +2,7 @@
 use mathlib.Core.Path.{◌≡◌, refl, sym, ap, ap₂, ◌∙◌, subst}
 use mathlib.Core.List.{List, [], ◌∷◌, ◌++◌, append_assoc, append-nil}
 use mathlib.Core.Logic.{◌⊎◌, inl, inr}
+use Rattle.std.specs.Prelude.{Option, Some, None}
 use Prim.Native.Nat.{ℕ, ◌+◌, ◌≤◌, ◌<◌}
 use native.Mathlib.Omega.{arith}
 use lib.ListN.{length, take}
@@ -10,14 +11,13 @@ use Rattle.tableau.specs.Families.{Rounds, Survivors}
 use Rattle.goal.specs.Goals.{first_of}
 use Rattle.start.specs.Starts.{start_list}
 use Rattle.tableau.specs.Tabled.{Tabled}
-use Rattle.std.specs.Prelude.{Option, Some, None}
 use Rattle.tableau.specs.declared.table.Counts.{Counts}
 use Rattle.naming.specs.Next.{next_of}
 use Rattle.naming.specs.declared.Naming.{Naming}
 use Rattle.naming.proofs.NextLaws.{next-count, next-number}
 use Rattle.judge.specs.Judged.{Judged, opens, closes}
 use Rattle.judge.specs.declared.Verdict.{Verdict}
-use Rattle.judge.specs.declared.Verdict.TheVariants.{Open, Unsatisfiable}
+use Rattle.judge.specs.declared.Verdict.TheVariants.{Unsatisfiable}
 use Rattle.lines.specs.Lines.{naming_line}
 use Rattle.buffer.specs.Put.{Put}
 use Rattle.buffer.proofs.PutLaws.{put_front}
@@ -27,23 +27,10 @@ use Rattle.pages.proofs.RowLaws.{rows_next, rows_none}
 
 -- ---- the verdict on one naming more
 
-module _ {v : Verdict} (r : ℕ) (f : Option ℕ) where
-  pub later-open : {q t : ℕ} → v ≡ Open q t → Open q t ≡ later_of v r f
-  unfolding later_of
-  later-open e = ap (λ x. later_of x r f) (sym e)
-
-  pub later-found : {t : ℕ} → v ≡ Unsatisfiable → f ≡ Some t → Open r t ≡ later_of v r f
-  unfolding later_of
-  later-found e i = ap₂ (λ x y. later_of x r y) (sym e) (sym i)
-
-  pub later-none : v ≡ Unsatisfiable → f ≡ None → Unsatisfiable ≡ later_of v r f
-  unfolding later_of
-  later-none e i = ap₂ (λ x y. later_of x r y) (sym e) (sym i)
-
 none_first : (l : List ℕ) → None ≡ first_of l → l ≡ []
 unfolding first_of
 none_first [] e = refl
-none_first (t ∷ ts) e = absurd (let z : ◌≡◌ {A = ℕ} 0 1 = cc in omega arith)
+none_first (t ∷ ts) e = absurd cc
 
 module _ {goals : ℕ → List ℕ} where
   pub judged-none : Judged goals 0 Unsatisfiable

@@ -12,14 +12,12 @@ use naming::Naming;
 use tableau::words::Sheet;
 
 // The verdict on namings 0 to r, from that on those before r and what was found for r.
+#[tactic(auto, unfolding(crate::specs::Later::later_of))]
 fn later(v: Verdict, r: u64, found: Option<usize>) -> Verdict
     ensures { result ≡ later_of v r found }
 {
     match (v, found) {
-        (Verdict::Unsatisfiable, Some(t)) => Verdict::Open {
-            naming: r,
-            least: t,
-        },
+        (Verdict::Unsatisfiable, Some(least)) => Verdict::Open { naming: r, least },
         _ => v,
     }
 }
@@ -54,6 +52,7 @@ pub fn fill_page(
     let mut v = before;
     let mut k = used;
     let mut n = start;
+    // By hand: the naming in hand moves on by `naming::advanced`, a rule of the project.
     while n.number < n.count {
         let r = n.number;
         let c = judge::fill_table(sheet, r, &mut first, &mut second);

@@ -1,8 +1,8 @@
 -- Which number a sheet has. Assumes nothing.
 use mathlib.Core.Path.{◌≡◌, refl, sym, ap, ap₂, ◌∙◌}
-use mathlib.Core.Bool.{Bool, true, false, cond}
+use mathlib.Core.Bool.{cond}
 use mathlib.Core.List.{List, [], ◌∷◌}
-use Prim.Native.Nat.{ℕ, zero, suc, ◌+◌, ◌≤◌, ◌<◌}
+use Prim.Native.Nat.{ℕ, zero, suc, ◌≤◌, ◌<◌}
 use native.Mathlib.Omega.{arith}
 use lib.ListN.{length}
 use lib.Dec.{eqb, ltb}
@@ -10,16 +10,6 @@ use borrow.Author.Tests.{eq-eqb, ne_eqb, lt-ltb, le-ltb}
 use Rattle.sheet.specs.Refusal.{first_of, conditions, read_refusal}
 use Rattle.sheet.proofs.RefusalLaws.{first-append}
 use Rattle.reader.specs.Reader.{members, places, refusal_within}
-
--- a number of so many conditions
-first-lt : (k : ℕ) (bs : List Bool) → 0 < k → first_of k bs < k + length bs
-first-lt k [] h = omega arith
-first-lt k (true ∷ bs) h = omega arith
-first-lt k (false ∷ bs) h = let i = first-lt (suc k) bs (omega arith) in omega arith
-
-pub read-eight : (s : List ℕ) → read_refusal s ≤ 8
-unfolding read_refusal conditions
-read-eight s = let h = first-lt 1 (conditions s) (omega arith) in omega arith
 
 module _ (most wide : ℕ) (s : List ℕ) where
   both : refusal_within most wide s ≡ cond (eqb (read_refusal s) 0) (first_of 9 (ltb most (length (members s)) ∷ ltb wide (length (places s)) ∷ [])) (read_refusal s)

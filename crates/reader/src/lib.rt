@@ -2,29 +2,9 @@
 #![tactic(auto)]
 
 ghost use Rattle.std.specs.Prelude.{◌≡◌, ◌-◌, ◌≤◌, ◌<◌, length};
-ghost use Rattle.refusal.specs.Number.{number_of};
 ghost use Rattle.reader.specs.Reader.{RootsAre, ReadIs};
 
-use closure::Closed;
-use lean::Gathered;
 use refusal::Refusal;
-
-// The refusal of a number that the reading of a sheet answers.
-fn refusal_by(k: u8) -> Refusal
-    requires { (0 < k) × (k ≤ 8) }
-    ensures { number_of result ≡ k }
-{
-    match k {
-        1 => Refusal::Length,
-        2 => Refusal::Byte,
-        3 => Refusal::Layout,
-        4 => Refusal::Names,
-        5 => Refusal::Kinds,
-        6 => Refusal::Grammar,
-        7 => Refusal::Symbol,
-        _ => Refusal::Braces,
-    }
-}
 
 // What a sheet says: its symbols' spellings as words and kinds (1 mark, 2 name, 3 field, 4 value); the members of its closure and behind them the values that do not occur, each a
 // word over those before it; the places among them of its formulas in positive form, globals first, then the goal; and of its lean, in order.
@@ -61,19 +41,14 @@ fn read_in(s: &[u8], most: usize, wide: usize, nodes: &mut [u64]) -> Result<Read
     requires nodes_nonzero { ((0 < length nodes.old) × (length nodes.old ≤ 1024)) × (length s.now ≤ 1024 → length s.now ≤ length nodes.old) }
     ensures { ReadIs most wide s.now result }
 {
-    let sheet = sheet::read_sheet(s, nodes);
-    let k = sheet.refusal;
-    if k != 0 {
-        return Err(refusal_by(k));
-    }
+    let sheet = sheet::read_sheet(s, nodes)?;
     let n = sheet.lines;
     let ends = sheet.ends;
     let roots = roots_of(ends);
     // Room for 128 closure members and 8 values.
     let mut members = [0u64; 136];
     let mut places = [0usize; 5];
-    let Closed::Within(closed) = closure::close(nodes, &roots[..n], &mut members, &mut places)
-    else {
+    let Some(closed) = closure::close(nodes, &roots[..n], &mut members, &mut places) else {
         return Err(Refusal::Closure);
     };
     if most < closed {
@@ -84,7 +59,7 @@ fn read_in(s: &[u8], most: usize, wide: usize, nodes: &mut [u64]) -> Result<Read
     let count = values::with_values(&kinds[..symbols], &mut members, closed);
     let words = sheet.words;
     let mut lean = [0u8; 12];
-    let Gathered::Count(width) = lean::lean_of(&members, count, &words[..symbols], &mut lean) else {
+    let Some(width) = lean::lean_of(&members, count, &words[..symbols], &mut lean) else {
         return Err(Refusal::Lean);
     };
     if wide < width {

@@ -1,5 +1,7 @@
 -- The refusal of a refusal's number is that refusal, and no refusal has the number 0. Assumes nothing.
-use mathlib.Core.Path.{◌≡◌, refl}
+use mathlib.Core.Path.{◌≡◌, refl, sym, ap, ◌∙◌}
+use Prim.Native.Nat.{ℕ}
+use native.Mathlib.Omega.{arith}
 use Rattle.refusal.specs.declared.Refusal.{Refusal}
 use Rattle.refusal.specs.declared.Refusal.TheVariants.{Length, Byte, Layout, Names, Kinds, Grammar, Symbol, Braces, Closure, Lean, Naming, Store, Snapshot, Entry, Twice, Row, Held, Clean, Limits}
 use Rattle.refusal.specs.Number.{number_of, refusal_by}
@@ -24,3 +26,7 @@ refusal-by-number Row = refl
 refusal-by-number Held = refl
 refusal-by-number Clean = refl
 refusal-by-number Limits = refl
+
+-- the refusal of 0 is the one of 19
+pub number-some : (e : Refusal) → number_of e ≡ 0 → ⊥
+number-some e z = let i : ◌≡◌ {A = ℕ} 19 0 = ap number_of (ap refusal_by (sym z) ∙ refusal-by-number e) ∙ z in omega arith

@@ -13,14 +13,19 @@ use native.Mathlib.Decide.{dec_le}
 use Rattle.ctl.proofs.BoolLaws.{and_both}
 use Rattle.layout.specs.declared.formulas.Span.{Span}
 use Rattle.layout.specs.Layout.{lines, texts, texts_of, lines_from, ends_right, starts_right, layout_right, LastText, goal_of, last_of}
-use Rattle.head.specs.Head.{layout_refusal, Accepted, HeadRead}
+use Rattle.head.specs.Head.{layout_refusal, Accepted}
+use Rattle.refusal.specs.declared.Refusal.{Refusal}
+use Rattle.refusal.specs.Number.{number_of}
+use Rattle.std.specs.Prelude.{Result, Ok, Err}
+use Rattle.std.specs.Result.{IsErr, IsErrAnd}
+use Rattle.sheet.specs.declared.Sheet.{Sheet}
+use Rattle.refusal.proofs.NumberLaws.{number-some}
 use Rattle.layout.proofs.ScanLaws.{part_length}
 use Rattle.layout.proofs.LineLaws.{lines_end}
 use Rattle.layout.proofs.FormulaTexts.{texts-length}
 use Rattle.sheet.specs.declared.Formulas.{Formulas}
-use Rattle.sheet.specs.declared.Sheet.{Sheet}
 use Rattle.sheet.specs.Refusal.{read, decls}
-use Rattle.sheet.specs.Sheet.{found_refusal, line_refusal, lowest, formula_refusal, sheet_refusal, Stored, FormulasRead, SheetRead, goal_under, goal_start}
+use Rattle.sheet.specs.Sheet.{found_refusal, line_refusal, lowest, formula_refusal, sheet_refusal, Stored, FormulasRead, Right, SheetRead, goal_under, goal_start}
 
 -- a formula's refusal is 6 at least
 known : (a b : Bool) → 6 ≤ cond a 7 (cond b 8 9)
@@ -41,54 +46,53 @@ unfolding lowest
 lowest-six low decl [] h = h
 lowest-six low decl (t ∷ ts) h = lowest-six (min low (line_refusal (read decl t))) decl ts (six-min low (line_refusal (read decl t)) h (line-six (read decl t)))
 
-module _ (s tab' : List ℕ) (h : Head) (x : HeadRead s h) where
-  pub sheet-first : (r : Sheet) → (h.refusal ≡ 0 → ⊥) → r.refusal ≡ h.refusal → SheetRead s tab' r
-  unfolding sheet_refusal
-  sheet-first r ne e =
-      record { is = e ∙ x.is ∙ rw (ne_eqb (layout_refusal s) 0 (λ z. ne (x.is ∙ z))); then = λ z. absurd (ne (sym e ∙ z)) }
+-- the refusals 1 to 5 come first
+sheet-first : (s : List ℕ) (e : Refusal) → layout_refusal s ≡ number_of e → sheet_refusal s ≡ number_of e
+unfolding sheet_refusal
+sheet-first s e f = rw (ne_eqb (layout_refusal s) 0 (λ z. number-some e (sym f ∙ z))) f
 
-  module _ (z : h.refusal ≡ 0) where
-    acc : Accepted s h
-    acc = x.then z
+pub sheet-refused : (s tab' : List ℕ) (e : Refusal) (r : Result Sheet Refusal) → IsErr r × IsErrAnd r (λ x. x ≡ e) → layout_refusal s ≡ number_of e → SheetRead s tab' r
+sheet-refused s tab' e (Ok h) a f = absurd a.1
+sheet-refused s tab' e (Err x) a f = sheet-first s e f ∙ ap number_of (sym a.1)
 
-    -- at most 5 formulas
-    pub texts-few : length (texts_of (lines_from s h.from)) ≤ 5
-    texts-few = rw (texts-length, acc.third, length-drop) (omega (arith, acc.bounded))
+module _ (s tab' : List ℕ) (h : Head) (x : (layout_refusal s ≡ 0) × Accepted s h) where
+  -- at most 5 formulas
+  pub texts-few : length (texts_of (lines_from s h.from)) ≤ 5
+  texts-few = rw (texts-length, x.1.third, length-drop) (omega (arith, x.1.bounded))
 
-    texts-are : texts_of (lines_from s h.from) ≡ texts s
-    texts-are = ap texts_of acc.third
+  texts-are : texts_of (lines_from s h.from) ≡ texts s
+  texts-are = ap texts_of x.1.third
 
-    module _ (f : Formulas) (y : FormulasRead h.decl (texts_of (lines_from s h.from)) tab' f) where
-      low-is : f.low ≡ formula_refusal s
-      low-is = y.low-is ∙ rw (texts-are, acc.decl-is)
+  module _ (f : Formulas) (y : FormulasRead h.decl (texts_of (lines_from s h.from)) tab' f) where
+    low-is : f.low ≡ formula_refusal s
+    low-is = y.low-is ∙ rw (texts-are, x.1.decl-is)
 
-      pub sheet-low : (r : Sheet) → f.low < 9 → r.refusal ≡ f.low → SheetRead s tab' r
-      unfolding sheet_refusal
-      sheet-low r l e =
-          record {
-            is = e ∙ low-is ∙ rw (eq-eqb (layout_refusal s) 0 (sym x.is ∙ z), lt-ltb (formula_refusal s) 9 (rw (← low-is) l));
-            then = λ q. let six : 6 ≤ formula_refusal s = lowest-six 9 (decls s) (texts s) (omega arith) in absurd (omega (arith, low-is));
-          }
+    pub sheet-low : (k : ℕ) → k < 9 → f.low ≡ k → sheet_refusal s ≡ k
+    unfolding sheet_refusal
+    sheet-low k l e = rw (eq-eqb (layout_refusal s) 0 x.0, sym low-is ∙ e, lt-ltb k 9 l)
 
-      pub sheet-right : 9 ≤ f.low → SheetRead s tab' (record { refusal = 0; symbols = h.count; words = h.words; kinds = h.kinds; lines = f.lines; count = f.count; ends = f.ends })
-      unfolding sheet_refusal
-      sheet-right l =
-          record {
-            is = rw (eq-eqb (layout_refusal s) 0 (sym x.is ∙ z), le-ltb (formula_refusal s) 9 (rw (← low-is) l));
-            then = λ q.
-                record {
-                  symbols = acc.count;
-                  words_are = acc.words_are;
-                  kinds-are = acc.kinds-are;
-                  lines = y.lines ∙ ap length texts-are;
-                  stored = stored;
-                };
-          }
-        where
-          stored : Stored (decls s) (texts s) f.lines f.count f.ends tab'
-          stored =
-              let w = y.then (omega arith) in
-              record { inside = w.inside; nodes-are = w.nodes-are ∙ rw (texts-are, acc.decl-is); ends-are = w.ends-are ∙ rw (texts-are, acc.decl-is) }
+    -- the number is 6 at least
+    pub sheet-right : (f.low ≡ 6 → ⊥) → (f.low ≡ 7 → ⊥) → (f.low ≡ 8 → ⊥)
+        → (sheet_refusal s ≡ 0) × Right s tab' (record { symbols = h.count; words = h.words; kinds = h.kinds; lines = f.lines; count = f.count; ends = f.ends })
+    unfolding sheet_refusal
+    sheet-right a b c = (
+      rw (eq-eqb (layout_refusal s) 0 x.0, le-ltb (formula_refusal s) 9 nine),
+      record {
+        symbols = x.1.count;
+        words_are = x.1.words_are;
+        kinds-are = x.1.kinds-are;
+        lines = y.lines ∙ ap length texts-are;
+        stored = stored;
+      },
+    )
+      where
+        nine : 9 ≤ formula_refusal s
+        nine = let six : 6 ≤ formula_refusal s = lowest-six 9 (decls s) (texts s) (omega arith) in omega (arith, low-is)
+
+        stored : Stored (decls s) (texts s) f.lines f.count f.ends tab'
+        stored =
+            let w = y.then (omega (arith, low-is, nine)) in
+            record { inside = w.inside; nodes-are = w.nodes-are ∙ rw (texts-are, x.1.decl-is); ends-are = w.ends-are ∙ rw (texts-are, x.1.decl-is) }
 
 -- the goal's text
 pub goal-refused : (s : List ℕ) (k : ℕ) → (k ≡ 0 → ⊥) → [] ≡ goal_under s k

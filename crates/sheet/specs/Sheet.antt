@@ -1,5 +1,7 @@
 -- The formulas of a sheet, and the refusals 1 to 8. Assumes nothing: these are definitions.
-use Rattle.std.specs.Prelude.{◌≡◌, cond, List, [], ◌∷◌, ◌++◌, map, ℕ, ◌+◌, ◌-◌, ◌≤◌, ◌<◌, min, length, take, ltb, eqb}
+use Rattle.std.specs.Prelude.{◌≡◌, cond, List, [], ◌∷◌, ◌++◌, map, ℕ, ◌+◌, ◌-◌, ◌≤◌, ◌<◌, min, length, take, ltb, eqb, Result, Ok, Err}
+use Rattle.refusal.specs.declared.Refusal.{Refusal}
+use Rattle.refusal.specs.Number.{number_of}
 use Rattle.syntax.specs.Raw.{Raw, size, nodes, Wrote, At}
 use Rattle.syntax.specs.Parse.{Out, good, bad}
 use Rattle.sheet.specs.Refusal.{decls, read}
@@ -82,9 +84,10 @@ pub record Right (s tab' : List ℕ) (r : Sheet) : Type 0 where
   pub lines : r.lines ≡ length (texts s)
   pub stored : Stored (decls s) (texts s) r.lines r.count r.ends tab'
 
-pub record SheetRead (s tab' : List ℕ) (r : Sheet) : Type 0 where
-  pub is : r.refusal ≡ sheet_refusal s
-  pub then : r.refusal ≡ 0 → Right s tab' r
+-- what the reader of sheets answers: the sheet, or the lowest of the refusals 1 to 8
+abbrev pub SheetRead : List ℕ → List ℕ → Result Sheet Refusal → Type 0
+SheetRead s tab' (Ok r) = (sheet_refusal s ≡ 0) × Right s tab' r
+SheetRead s tab' (Err e) = sheet_refusal s ≡ number_of e
 
 -- the goal's text under a refusal, 0 for none: empty with a refusal
 unfoldable pub goal_under : List ℕ → ℕ → List ℕ

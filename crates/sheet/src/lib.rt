@@ -5,6 +5,9 @@ ghost use Rattle.std.specs.Prelude.{◌≡◌, ◌+◌, ◌-◌, ◌≤◌, ◌<
 ghost use Rattle.layout.specs.Layout.{lines_from, texts_of, layout_right};
 ghost use Rattle.sheet.specs.Sheet.{found_refusal, OneRead, FormulasRead, SheetRead, goal_under, goal_start};
 
+use head::Head;
+use refusal::Refusal;
+
 // A formula that was read: how many nodes the table then holds, and its refusal 6, 7 or 8, or 9 for none.
 #[derive(Clone, Copy)]
 pub struct One {
@@ -58,7 +61,7 @@ fn read_formulas(s: &[u8], from: usize, decl: &[u64], tab: &mut [u64]) -> Formul
     let mut n: usize = 0;
     let mut at = from;
     while at < s.len() {
-        let e = layout::end_of(10, s, at);
+        let e = layout::end_of(b'\n', s, at);
         if s.len() <= e {
             return Formulas {
                 low,
@@ -83,11 +86,9 @@ fn read_formulas(s: &[u8], from: usize, decl: &[u64], tab: &mut [u64]) -> Formul
     }
 }
 
-// A sheet that was read: the lowest of the refusals 1 to 8, 0 for none; the symbols' number, spellings as words and kinds (1 mark, 2 name, 3 field, 4 value); and the
-// formulas, globals first, then the goal.
+// A sheet that was read: the symbols' number, spellings as words and kinds (1 mark, 2 name, 3 field, 4 value); and the formulas, globals first, then the goal.
 #[derive(Clone, Copy)]
 pub struct Sheet {
-    pub refusal: u8,
     pub symbols: usize,
     pub words: [u64; 8],
     pub kinds: [u8; 8],
@@ -96,53 +97,38 @@ pub struct Sheet {
     pub ends: [usize; 5],
 }
 
-// A refused sheet.
-fn refused(k: u8) -> Sheet
-    ensures { result.refusal ≡ k }
-{
-    Sheet {
-        refusal: k,
-        symbols: 0,
-        words: [0u64; 8],
-        kinds: [0u8; 8],
-        lines: 0,
-        count: 0,
-        ends: [0usize; 5],
-    }
-}
-
-// The sheet, its formulas into a table that has a place for each of its bytes, if it is not too long.
-pub fn read_sheet(s: &[u8], tab: &mut [u64]) -> Sheet
+// The sheet, its formulas into a table that has a place for each of its bytes, if it is not too long; or the lowest of the refusals 1 to 8.
+pub fn read_sheet(s: &[u8], tab: &mut [u64]) -> Result<Sheet, Refusal>
     requires { (length tab.old ≤ 1024) × (length s.now ≤ 1024 → length s.now ≤ length tab.old) }
     ensures { SheetRead s.now tab.new result }
 {
-    let head = head::read_head(s);
-    let first = head.refusal;
-    if first != 0 {
-        return refused(first);
+    let Head {
+        count: symbols,
+        words,
+        kinds,
+        decl,
+        from,
+    } = head::read_head(s)?;
+    let Formulas {
+        low,
+        lines,
+        count,
+        ends,
+    } = read_formulas(s, from, &decl, tab);
+    match low {
+        6 => return Err(Refusal::Grammar),
+        7 => return Err(Refusal::Symbol),
+        8 => return Err(Refusal::Braces),
+        _ => {}
     }
-    let from = head.from;
-    let decl = head.decl;
-    let f = read_formulas(s, from, &decl, tab);
-    let low = f.low;
-    if low < 9 {
-        return refused(low);
-    }
-    let symbols = head.count;
-    let words = head.words;
-    let kinds = head.kinds;
-    let lines = f.lines;
-    let count = f.count;
-    let ends = f.ends;
-    Sheet {
-        refusal: 0,
+    Ok(Sheet {
         symbols,
         words,
         kinds,
         lines,
         count,
         ends,
-    }
+    })
 }
 
 // The goal's text, a part of the sheet; empty with a refusal, which the caller gives.

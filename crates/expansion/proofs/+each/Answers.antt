@@ -12,11 +12,11 @@ each-requires t c =
 
 pub returns-then-rest-eq0 : goal.returns-then-rest-eq0
 returns-then-rest-eq0 t c =
-    each-skip _ _ _ _ _ _ (mode-below _ _ c.requires.1.1.0 c.requires.1.1.1.0 c.requires.1.1.1.1) c.if-rest-eq0.true c.each.ensures
+    each-skip _ _ _ _ _ _ c.requires.1.1 c.if-rest-eq0.true c.each.ensures
 
 pub returns-then-rest-eq1 : goal.returns-then-rest-eq1
 returns-then-rest-eq1 t c =
-    each_last _ _ _ _ _ _ _ (mode-below _ _ c.requires.1.1.0 c.requires.1.1.1.0 c.requires.1.1.1.1) c.if-rest-eq1.true c.bit.ensures.0 c.next_one.ensures
+    each_last _ _ _ _ _ _ _ c.requires.1.1 c.if-rest-eq1.true c.bit.ensures.0 c.next_one.ensures
 
 pub each-requires-2 : goal.each-requires-2
 each-requires-2 t c =
@@ -25,7 +25,7 @@ each-requires-2 t c =
 
 pub returns-in_err-later : goal.returns-in_err-later
 returns-in_err-later t c =
-    rw c.from_residual.ensures (each-full _ _ _ _ _ _ (mode-below _ _ c.requires.1.1.0 c.requires.1.1.1.0 c.requires.1.1.1.1) (omega (arith, c.if-rest-eq0.false)) (omega (arith, c.if-rest-eq0.false, c.if-rest-eq1.false, c.requires.1.1.1.0)) c.requires.1.1.1.1 c.each-2.ensures c.in_err-later.was)
+    rw c.from_residual.ensures (each-full _ _ _ _ _ _ c.requires.1.1 c.if-rest-eq0.false c.if-rest-eq1.false c.each-2.ensures c.in_err-later.was)
 
 pub next_one-requires-2 : goal.next_one-requires-2
 next_one-requires-2 t c =
@@ -34,7 +34,7 @@ next_one-requires-2 t c =
 
 pub returns-in_err-first : goal.returns-in_err-first
 returns-in_err-first t c =
-    rw c.from_residual-in_err-first.ensures (each-full-2 _ _ _ _ _ _ (mode-below _ _ c.requires.1.1.0 c.requires.1.1.1.0 c.requires.1.1.1.1) (omega (arith, c.if-rest-eq0.false)) (omega (arith, c.if-rest-eq0.false, c.if-rest-eq1.false, c.requires.1.1.1.0)) c.requires.1.1.1.1 c.requires.0 (was-added c.each-2.ensures c.in_ok-later.was) c.each-2.auto.tab _ _ c.bit-2.ensures.0 c.requires.1.0 refl c.next_one-2.ensures c.in_err-first.was)
+    rw c.from_residual-in_err-first.ensures (each-full-2 _ _ _ _ _ _ c.requires.1.1 c.if-rest-eq0.false c.if-rest-eq1.false c.requires.0 (was-added c.each-2.ensures c.in_ok-later.was) c.each-2.auto.tab _ _ c.bit-2.ensures.0 c.requires.1.0 refl c.next_one-2.ensures c.in_err-first.was)
 
 pub join-requires : goal.join-requires
 join-requires t c =
@@ -44,4 +44,4 @@ join-requires t c =
 
 pub returns : goal.returns
 returns t c =
-    each-join _ _ _ _ _ _ (mode-below _ _ c.requires.1.1.0 c.requires.1.1.1.0 c.requires.1.1.1.1) (omega (arith, c.if-rest-eq0.false)) (omega (arith, c.if-rest-eq0.false, c.if-rest-eq1.false, c.requires.1.1.1.0)) c.requires.1.1.1.1 c.requires.0 (was-added c.each-2.ensures c.in_ok-later.was) c.each-2.auto.tab _ _ c.bit-2.ensures.0 c.requires.1.0 refl (was-added c.next_one-2.ensures c.in_ok-first.was) c.next_one-2.auto.tab c.join.ensures
+    each-join _ _ _ _ _ _ c.requires.1.1 c.if-rest-eq0.false c.if-rest-eq1.false c.requires.0 (was-added c.each-2.ensures c.in_ok-later.was) c.each-2.auto.tab _ _ c.bit-2.ensures.0 c.requires.1.0 refl (was-added c.next_one-2.ensures c.in_ok-first.was) c.next_one-2.auto.tab c.join.ensures

@@ -1,7 +1,6 @@
 use native.Mathlib.Omega.{arith}
 use Rattle.head.proofs.WordLaws.{collect-wrong, collect-room, collect-last, collect-next, kind_fits, kind-few, kinds-collected}
 use Rattle.head.specs.Head.{kind_of, kind_right}
-use lib.Seq.{length-take-le}
 use lib.ListN.{length-set}
 use Prim.Native.Nat.{ℕ}
 use mathlib.Core.Bool.{Bool}
@@ -15,48 +14,20 @@ right_is seen w e f = rw (f, e) refl
 pub loop-kinds-init : goal.loop-kinds-init
 loop-kinds-init c = record { inside = omega arith; few = omega arith; room = refl; are = kinds-collected _ }
 
-pub end_of-e-requires : goal.end_of-e-requires
-end_of-e-requires c = omega arith
-
-pub slice_bounds-kind_of-count : goal.slice_bounds-kind_of-count
-slice_bounds-kind_of-count c = omega arith
-
-pub kind_of-k-requires : goal.kind_of-k-requires
-kind_of-k-requires c = omega arith
-
-pub slice_bounds-kinds-end : goal.slice_bounds-kinds-end
-slice_bounds-kinds-end c = omega arith
-
-pub slice_bounds-kind_right-end : goal.slice_bounds-kind_right-end
-slice_bounds-kind_right-end c = sym (length-take-le _ _ (omega arith))
-
-pub kind_right-requires : goal.kind_right-requires
-kind_right-requires c = omega arith
-
 pub returns-then-not-kind_right : goal.returns-then-not-kind_right
 returns-then-not-kind_right c =
     let p = c.loop-kinds.invariant in
-    record { few = omega arith; room = p.room; are = collect-wrong p c.end_of-e.ensures.0 c.end_of-e.ensures.1.1 (sym (right_is _ _ c.kind_of-k.ensures c.kind_right.ensures) ∙ c.if-not-kind_right.true) }
+    collect-wrong p c.end_of-e.ensures.0 c.end_of-e.ensures.1.1 (sym (right_is _ _ c.kind_of-k.ensures c.kind_right.ensures) ∙ c.if-not-kind_right.true)
 
-pub bounds-kinds-n : goal.bounds-kinds-n
-bounds-kinds-n c =
+pub bounds-kinds-count : goal.bounds-kinds-count
+bounds-kinds-count c =
     collect-room c.loop-kinds.invariant c.end_of-e.ensures.0 c.end_of-e.ensures.1.1 kind-few (sym (right_is _ _ c.kind_of-k.ensures c.kind_right.ensures) ∙ c.if-not-kind_right.false)
-
-pub overflow_add-n : goal.overflow_add-n
-overflow_add-n c =
-    omega (arith, collect-room c.loop-kinds.invariant c.end_of-e.ensures.0 c.end_of-e.ensures.1.1 kind-few (sym (right_is _ _ c.kind_of-k.ensures c.kind_right.ensures) ∙ c.if-not-kind_right.false))
 
 pub returns-then-line-e : goal.returns-then-line-e
 returns-then-line-e c =
     let p = c.loop-kinds.invariant in
     let r = sym (right_is _ _ c.kind_of-k.ensures c.kind_right.ensures) ∙ c.if-not-kind_right.false in
-    record { few = omega (arith, collect-room p c.end_of-e.ensures.0 c.end_of-e.ensures.1.1 kind-few r); room = simp length-set p.room; are = collect-last p c.end_of-e.ensures.0 c.end_of-e.ensures.1.1 kind-few r c.kind_of-k.ensures c.if-line-e.true }
-
-pub overflow_add-at : goal.overflow_add-at
-overflow_add-at c = omega arith
-
-pub loop-kinds-smaller : goal.loop-kinds-smaller
-loop-kinds-smaller c = omega arith
+    record { some = omega arith; few = omega (arith, collect-room p c.end_of-e.ensures.0 c.end_of-e.ensures.1.1 kind-few r); room = simp length-set p.room; are = collect-last p c.end_of-e.ensures.0 c.end_of-e.ensures.1.1 kind-few r c.kind_of-k.ensures c.if-line-e.true }
 
 pub loop-kinds-preserved : goal.loop-kinds-preserved
 loop-kinds-preserved c =

@@ -6,7 +6,7 @@ use Prim.Native.Nat.{◌-◌}
 use Rattle.head.proofs.kinds.read_kinds.Given as goal
 
 abbrev pub invariant-loop-kinds : goal.invariant-loop-kinds
-invariant-loop-kinds l = Collecting kind_fits kind_of l.line (kinds_of l.line) l.kinds l.n l.at
+invariant-loop-kinds l = Collecting kind_fits kind_of l.line (kinds_of l.line) l.kinds l.count l.at
 
 abbrev pub decreases-loop-kinds : goal.decreases-loop-kinds
 decreases-loop-kinds l = length l.line - l.at

@@ -6,6 +6,7 @@ use borrow.Author.Tests.{lt-ltb, le-ltb}
 use mathlib.Core.Bool.{not}
 use mathlib.Core.Path.{sym, ap, ◌∙◌}
 use Rattle.layout.specs.Text.{has}
+use Rattle.layout.proofs.ScanLaws.{has-any}
 use Rattle.head.proofs.names.name_right.Goals as goal
 
 pub returns-then-not-is_spelling : goal.returns-then-not-is_spelling
@@ -24,4 +25,4 @@ word_from-x-requires c =
 pub returns : goal.returns
 unfolding word_right
 returns c =
-    rw (sym c.is_spelling.ensures ∙ c.if-not-is_spelling.false, lt-ltb _ _ c.if-seen-ge8.false) (ap not (c.has_word.ensures ∙ ap (λ x. has x c.args.seen.now) c.word_from-x.ensures.0))
+    rw (sym c.is_spelling.ensures ∙ c.if-not-is_spelling.false, lt-ltb _ _ c.if-seen-ge8.false) (ap not (c.contains.ensures.value ∙ has-any _ _ ∙ ap (λ x. has x c.args.seen.now) c.word_from-x.ensures.0))

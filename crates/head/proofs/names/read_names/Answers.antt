@@ -1,6 +1,5 @@
-use lib.Seq.{length-take-le}
 use native.Mathlib.Omega.{arith}
-use Rattle.head.proofs.WordLaws.{collect-wrong, collect-room, collect-last, collect-next, word-few, word-spelled}
+use Rattle.head.proofs.WordLaws.{none-of, collect-wrong, collect-room, collect-last, collect-next, word-few, word-spelled}
 use Rattle.head.proofs.Spellings.{names-packed}
 use lib.ListN.{length-set}
 use mathlib.Core.Path.{refl, sym, ◌∙◌}
@@ -9,56 +8,24 @@ use Rattle.head.proofs.names.read_names.Goals as goal
 pub loop-words-init : goal.loop-words-init
 loop-words-init c = record { inside = omega arith; few = omega arith; room = refl; are = names-packed _ }
 
-pub end_of-e-requires : goal.end_of-e-requires
-end_of-e-requires c = omega arith
-
-pub slice_bounds-words-end : goal.slice_bounds-words-end
-slice_bounds-words-end c = omega arith
-
-pub slice_bounds-name_right-end : goal.slice_bounds-name_right-end
-slice_bounds-name_right-end c = sym (length-take-le _ _ (omega arith))
-
-pub slice_bounds-name_right-count : goal.slice_bounds-name_right-count
-slice_bounds-name_right-count c = omega arith
-
-pub name_right-requires : goal.name_right-requires
-name_right-requires c = omega arith
-
 pub returns-then-not-name_right : goal.returns-then-not-name_right
 returns-then-not-name_right c =
     let p = c.loop-words.invariant in
-    record { few = omega arith; room = p.room; are = collect-wrong p c.end_of-e.ensures.0 c.end_of-e.ensures.1.1 (sym c.name_right.ensures ∙ c.if-not-name_right.true) }
-
-pub slice_bounds-word_from-count : goal.slice_bounds-word_from-count
-slice_bounds-word_from-count c = omega arith
+    none-of _ (collect-wrong p c.end_of-e.ensures.0 c.end_of-e.ensures.1.1 (sym c.name_right.ensures ∙ c.if-not-name_right.true))
 
 pub word_from-requires : goal.word_from-requires
 word_from-requires c =
     (omega arith, (word-spelled _ _ (sym c.name_right.ensures ∙ c.if-not-name_right.false)).short)
 
-pub bounds-words-n : goal.bounds-words-n
-bounds-words-n c =
+pub bounds-words-count : goal.bounds-words-count
+bounds-words-count c =
     collect-room c.loop-words.invariant c.end_of-e.ensures.0 c.end_of-e.ensures.1.1 word-few (sym c.name_right.ensures ∙ c.if-not-name_right.false)
-
-pub offset_bounds-words-n : goal.offset_bounds-words-n
-offset_bounds-words-n c =
-    omega (arith, collect-room c.loop-words.invariant c.end_of-e.ensures.0 c.end_of-e.ensures.1.1 word-few (sym c.name_right.ensures ∙ c.if-not-name_right.false))
-
-pub overflow_add-n : goal.overflow_add-n
-overflow_add-n c =
-    omega (arith, collect-room c.loop-words.invariant c.end_of-e.ensures.0 c.end_of-e.ensures.1.1 word-few (sym c.name_right.ensures ∙ c.if-not-name_right.false))
 
 pub returns-then-line-e : goal.returns-then-line-e
 returns-then-line-e c =
     let p = c.loop-words.invariant in
     let r = sym c.name_right.ensures ∙ c.if-not-name_right.false in
-    record { few = omega (arith, collect-room p c.end_of-e.ensures.0 c.end_of-e.ensures.1.1 word-few r); room = simp length-set p.room; are = collect-last p c.end_of-e.ensures.0 c.end_of-e.ensures.1.1 word-few r c.word_from.ensures.0 c.if-line-e.true }
-
-pub overflow_add-at : goal.overflow_add-at
-overflow_add-at c = omega arith
-
-pub loop-words-smaller : goal.loop-words-smaller
-loop-words-smaller c = omega arith
+    record { some = omega arith; few = omega (arith, collect-room p c.end_of-e.ensures.0 c.end_of-e.ensures.1.1 word-few r); room = simp length-set p.room; are = collect-last p c.end_of-e.ensures.0 c.end_of-e.ensures.1.1 word-few r c.word_from.ensures.0 c.if-line-e.true }
 
 pub loop-words-preserved : goal.loop-words-preserved
 loop-words-preserved c =

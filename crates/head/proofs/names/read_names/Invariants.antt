@@ -8,7 +8,7 @@ use mathlib.Core.List.{map}
 use Rattle.head.proofs.names.read_names.Given as goal
 
 abbrev pub invariant-loop-words : goal.invariant-loop-words
-invariant-loop-words l = Collecting word_right word l.line (map word (names_of l.line)) l.words l.n l.at
+invariant-loop-words l = Collecting word_right word l.line (map word (names_of l.line)) l.words l.count l.at
 
 abbrev pub decreases-loop-words : goal.decreases-loop-words
 decreases-loop-words l = length l.line - l.at

@@ -5,7 +5,6 @@ use lib.ListN.{length}
 use Rattle.truth.specs.Blocks.{has}
 use Rattle.truth.proofs.BlockLaws.{slot}
 use Rattle.truth.proofs.Joining.{join-low}
-use Rattle.wordset.specs.Answers.{Answers}
 use Rattle.image.proofs.Fours.{fours-as, joins-end, joins-on, joins-start, turned_passing, word-here}
 use Rattle.image.proofs.narrowing.four.Goals as goal
 use Rattle.image.proofs.narrowing.four.Goals.{In-loop-rest}

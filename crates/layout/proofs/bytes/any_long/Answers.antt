@@ -1,36 +1,18 @@
 use native.Mathlib.Omega.{arith}
 use Rattle.layout.proofs.ScanLaws.{long-last, long-here, long-next, long-end, long-none}
-use mathlib.Core.Path.{refl, sym, ◌∙◌}
+use mathlib.Core.Path.{sym, ◌∙◌}
 use Rattle.layout.proofs.bytes.any_long.Goals as goal
 
 pub returns-then-s-le200 : goal.returns-then-s-le200
 returns-then-s-le200 c = sym (long-none 200 _ c.if-s-le200.true (omega arith))
 
-pub loop-at-init : goal.loop-at-init
-loop-at-init c = (omega arith, refl)
-
-pub end_of-e-requires : goal.end_of-e-requires
-end_of-e-requires c = omega arith
-
-pub overflow_sub-result : goal.overflow_sub-result
-overflow_sub-result c = omega arith
-
 pub returns-then-s-e : goal.returns-then-s-e
 returns-then-s-e c =
     sym (long-last _ _ _ c.end_of-e.ensures.0 c.loop-at.invariant.0 c.end_of-e.ensures.1.1 c.if-s-e.true) ∙ c.loop-at.invariant.1
 
-pub overflow_sub-e : goal.overflow_sub-e
-overflow_sub-e c = omega arith
-
 pub returns-then-e-at-gt200 : goal.returns-then-e-at-gt200
 returns-then-e-at-gt200 c =
     sym (long-here _ _ _ c.end_of-e.ensures.0 c.loop-at.invariant.0 c.if-s-e.false (omega arith)) ∙ c.loop-at.invariant.1
-
-pub overflow_add-at : goal.overflow_add-at
-overflow_add-at c = omega arith
-
-pub loop-at-smaller : goal.loop-at-smaller
-loop-at-smaller c = omega arith
 
 pub loop-at-preserved : goal.loop-at-preserved
 loop-at-preserved c =
