@@ -22,7 +22,7 @@ use Rattle.members.specs.declared.Added.{Added}
 use Rattle.std.proofs.Common.{Option, Some, None}
 use Rattle.members.proofs.MemberLaws.{forms-length}
 use Rattle.members.proofs.StepLaws.{◌⊆◌, grows_none, grows-keep, grows_then, drop-later, was-added, was-full}
-use Rattle.values.specs.Values.{is_value, value_forms, Extended}
+use Rattle.values.specs.Values.{is_value, Extended}
 
 forms-many : (tab : List ℕ) (n : ℕ) → n ≤ length tab → length (forms (take n tab)) ≡ n
 forms-many tab n h = forms-length (take n tab) ∙ length-take-le n tab h
@@ -92,9 +92,6 @@ pub record Sofar (kinds tab₀ : List ℕ) (n : ℕ) (tab : List ℕ) (m k : ℕ
   pub extended : Extended (map lit (keep (is_value kinds) (below k))) tab₀ n tab m
 
 module _ {kinds tab₀ : List ℕ} {n : ℕ} (r : Ready tab₀ n) where
-  pub sofar-none : Sofar kinds tab₀ n tab₀ n 0
-  sofar-none = record { most = omega arith; same = refl; extended = extended_none r }
-
   module _ {tab : List ℕ} {m k : ℕ} (s : Sofar kinds tab₀ n tab m k) where
     pub sofar-ready : Ready tab m
     sofar-ready = ready-extended r s.extended s.same
@@ -111,9 +108,6 @@ module _ {kinds tab₀ : List ℕ} {n : ℕ} (r : Ready tab₀ n) where
     -- the table has room for the symbols that are left
     pub sofar-room : n + length kinds ≤ length tab₀ → k < length kinds → m < length tab
     sofar-room h l = let f = s.extended.few in let e = s.same in let g = values-few kinds k in omega arith
-
-    pub sofar-all : length kinds ≤ k → Extended (value_forms kinds) tab₀ n tab m
-    sofar-all h = let a = s.most in let e : k ≡ length kinds = omega arith in subst (λ j. Extended (map lit (keep (is_value kinds) (below j))) tab₀ n tab m) e s.extended
 
 -- ---- what that makes of the formulas that stood there
 

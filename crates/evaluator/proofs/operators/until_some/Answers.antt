@@ -1,7 +1,7 @@
-use mathlib.Core.Path.{◌≡◌, ap}
+use mathlib.Core.Path.{ap}
 use lib.Bits.{bit_and, bit_or}
-use Rattle.std.proofs.Common.{ℕ, arith}
-use Rattle.evaluator.specs.Values.{eu_round, eu_word}
+use Rattle.std.proofs.Common.{ℕ}
+use Rattle.evaluator.specs.Values.{eu_round}
 use Rattle.edges.proofs.NodeLaws.{repeat-none, repeat-on}
 use Rattle.evaluator.proofs.operators.until_some.Goals as goal
 
@@ -11,7 +11,3 @@ loop-init c = repeat-none _
 pub loop-preserved : goal.loop-preserved
 loop-preserved c =
     repeat-on (eu_round c.args.e.now c.args.n c.args.p c.args.q) _ _ _ c.loop.invariant (ap (λ (y : ℕ). bit_or c.args.q (bit_and c.args.p y)) c.pre.ensures)
-
-pub returns : goal.returns
-unfolding eu_word
-returns c = let e : c.loop.counter ≡ c.args.n = omega arith in cc
