@@ -1,15 +1,17 @@
 -- Laws of the words of lines 1 and 2. Assumes nothing.
-use mathlib.Core.Path.{◌≡◌, refl, sym, ap, ◌∙◌}
+use mathlib.Core.Path.{◌≡◌, refl, sym, ap, ap₂, ◌∙◌}
 use mathlib.Core.Bool.{Bool, true, false, cond, ◌&&◌, false≢true}
 use mathlib.Core.List.{List, [], ◌∷◌, ◌++◌, map}
 use Prim.Native.Nat.{ℕ, suc, ◌+◌, ◌-◌, ◌≤◌, ◌<◌}
 use native.Mathlib.Numerals.{add-one}
 use native.Mathlib.Omega.{arith}
 use lib.Dec.{eqb, ltb}
-use lib.ListN.{length, take, drop, set, length-drop, length-set}
-use lib.Seq.{take-suc-set, length-take-le, take_all}
-use borrow.Author.Tests.{lt-ltb, le-ltb, ltb-true, ltb-false}
-use Rattle.std.specs.List.{count_by}
+use lib.ListN.{length, take, drop, set, length-drop, length-set, get_or, drop_of_length-le}
+use lib.Seq.{take-suc-set, length-take-le, take_all, drop-cons}
+use borrow.Author.Tests.{ltb-true, ltb-false}
+use Rattle.std.specs.List.{count_by, slice_split}
+use Rattle.std.proofs.lemmas.List.Splits.{length-slice_split}
+use Rattle.layout.proofs.ScanLaws.{split-is}
 use Rattle.std.proofs.lemmas.List.Recursion.{is_count_by}
 use Rattle.spelling.specs.Spelling.{spelled, word}
 use Rattle.spelling.proofs.SpellingLaws.{Spelled, spelled_is}
@@ -40,52 +42,54 @@ module _ (b : ℕ) (s : List ℕ) (at e : ℕ) (is : e ≡ end_of b s at) (insid
   unfolding rest
   first = first-at (ltb e (length s)) refl
 
-pub rest-none : (b : ℕ) (s : List ℕ) (e : ℕ) → length s ≤ e → rest b s e ≡ []
-unfolding rest
-rest-none b s e h = rw (le-ltb _ _ h)
-
-pub rest_more : (b : ℕ) (s : List ℕ) (e : ℕ) → e < length s → rest b s e ≡ split b (drop (e + 1) s)
-unfolding rest
-rest_more b s e h = rw (lt-ltb _ _ h)
-
 -- ---- words read one by one into an array of 8
 -- each right word's number after those seen; none where a word is wrong
 unfoldable pub collect : (List ℕ → List ℕ → Bool) → (List ℕ → ℕ) → List ℕ → List (List ℕ) → List ℕ
 collect right value seen [] = seen
 collect right value seen (w ∷ ws) = cond (right seen w) (collect right value (seen ++ (value w ∷ [])) ws) []
 
--- the first n of an array, and the numbers of the words from a position on, are those of the line
-pub record Collecting (right : List ℕ → List ℕ → Bool) (value : List ℕ → ℕ) (line all l : List ℕ) (n at : ℕ) : Type 0 where
-  pub inside : at ≤ length line
+-- a turn of a loop over the library's parts of a text, after k of them
+pub word-turn : (b : ℕ) (s w : List ℕ) (n k : ℕ) → n ≡ k → (k < length (slice_split (λ c. eqb c b) s)) × (w ≡ get_or (slice_split (λ c. eqb c b) s) k w) → (n < length (split b s)) × (w ≡ get_or (split b s) n w)
+word-turn b s w n k e t = rw (e, ← split-is b s) t
+
+-- and its end: there is a word
+pub word-end : (b : ℕ) (s : List ℕ) (n k : ℕ) → n ≡ k → k ≡ length (slice_split (λ c. eqb c b) s) → (1 ≤ n) × (length (split b s) ≤ n)
+word-end b s n k e t = let h = length-slice_split (λ c. eqb c b) s in let q = ap length (split-is b s) in (omega arith, omega arith)
+
+-- the first n words are in an array, and the numbers of the others, after those, give all
+pub record Collecting (right : List ℕ → List ℕ → Bool) (value : List ℕ → ℕ) (ws : List (List ℕ)) (all l : List ℕ) (n : ℕ) : Type 0 where
   pub few : n ≤ 8
   pub room : length l ≡ 8
-  pub are : collect right value (take n l) (split space (drop at line)) ≡ all
+  pub are : collect right value (take n l) (drop n ws) ≡ all
 
-module _ {right : List ℕ → List ℕ → Bool} {value : List ℕ → ℕ} {line all l : List ℕ} {n at e : ℕ} (p : Collecting right value line all l n at) (is : e ≡ end_of space line at) (within : e ≤ length line) where
-  pub collect-wrong : right (take n l) (part line at e) ≡ false → all ≡ []
+module _ {right : List ℕ → List ℕ → Bool} {value : List ℕ → ℕ} {ws : List (List ℕ)} {all l : List ℕ} {n : ℕ} (p : Collecting right value ws all l n) where
+  pub collect-end : length ws ≤ n → take n l ≡ all
   unfolding collect
-  collect-wrong r = sym p.are ∙ rw (first space line at e is p.inside within, r)
+  collect-end h = sym (rw (drop_of_length-le ws h)) ∙ p.are
 
-  module _ (right-few : (seen w : List ℕ) → right seen w ≡ true → length seen < 8) (r : right (take n l) (part line at e) ≡ true) where
-    pub collect-room : n < 8
-    collect-room = let f : length (take n l) < 8 = right-few (take n l) (part line at e) r in omega (arith, length-take-le n l (omega arith))
+  module _ (w : List ℕ) (h : n < length ws) (is : w ≡ get_or ws n w) where
+    next : collect right value (take n l) (w ∷ drop (n + 1) ws) ≡ all
+    next =
+        let front : drop n ws ≡ w ∷ drop (n + 1) ws = drop-cons ws n w h ∙ ap₂ ◌∷◌ (sym is) (ap (λ k. drop k ws) (sym (add-one n))) in
+        sym (ap (collect right value (take n l)) front) ∙ p.are
 
-    module _ {x : ℕ} (v : x ≡ value (part line at e)) where
-      add : take n l ++ (value (part line at e) ∷ []) ≡ take (n + 1) (set l n x)
-      add = let q : n < length l = omega (arith, collect-room) in rw (← v, add-one n, take-suc-set l n x q)
+    pub collect-wrong : right (take n l) w ≡ false → all ≡ []
+    unfolding collect
+    collect-wrong r = sym next ∙ rw r
 
-      pub collect-last : length line ≤ e → take (n + 1) (set l n x) ≡ all
+    module _ (right-few : (seen w : List ℕ) → right seen w ≡ true → length seen < 8) (r : right (take n l) w ≡ true) where
+      pub collect-room : n < 8
+      collect-room = let f : length (take n l) < 8 = right-few (take n l) w r in omega (arith, length-take-le n l (omega (arith, p.few, p.room)))
+
+      pub collect-next : {x : ℕ} → x ≡ value w → Collecting right value ws all (set l n x) (n + 1)
       unfolding collect
-      collect-last h = sym (rw (first space line at e is p.inside within, r, rest-none space line e h) add) ∙ p.are
-
-      pub collect-next : e < length line → Collecting right value line all (set l n x) (n + 1) (e + 1)
-      unfolding collect
-      collect-next h =
+      collect-next {x} v =
+          let q : n < length l = omega (arith, collect-room, p.room) in
+          let add : take n l ++ (value w ∷ []) ≡ take (n + 1) (set l n x) = rw (← v, add-one n, take-suc-set l n x q) in
           record {
-            inside = omega arith;
             few = omega (arith, collect-room);
             room = length-set l n x ∙ p.room;
-            are = rw (← add) (sym (rw (first space line at e is p.inside within, r, rest_more space line e h)) ∙ p.are);
+            are = rw (← add) (sym (rw r) ∙ next);
           }
 
 -- ---- the kinds

@@ -60,20 +60,15 @@ pub fn read_kinds(line: &[u8]) -> Option<Kinds>
 {
     let mut kinds = [0; 8];
     let mut count = 0;
-    let mut at = 0;
-    loop {
-        let e = end_of(b' ', line, at);
-        let k = kind_of(&line[at..e]);
+    for word in line.split(|&b| b == b' ') {
+        let k = kind_of(word);
         if !kind_right(&kinds[..count], k) {
             return None;
         }
         kinds[count] = k;
         count += 1;
-        if line.len() <= e {
-            return Some(Kinds { count, kinds });
-        }
-        at = e + 1;
     }
+    Some(Kinds { count, kinds })
 }
 
 // The kinds of the sheet's line 2.

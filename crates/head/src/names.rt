@@ -33,19 +33,14 @@ pub fn read_names(line: &[u8]) -> Option<Names>
 {
     let mut words = [0; 8];
     let mut count = 0;
-    let mut at = 0;
-    loop {
-        let e = end_of(b' ', line, at);
-        if !name_right(&words[..count], &line[at..e]) {
+    for word in line.split(|&b| b == b' ') {
+        if !name_right(&words[..count], word) {
             return None;
         }
-        words[count] = word_from(&line[at..e], 0);
+        words[count] = word_from(word, 0);
         count += 1;
-        if line.len() <= e {
-            return Some(Names { count, words });
-        }
-        at = e + 1;
     }
+    Some(Names { count, words })
 }
 
 // The spellings of the sheet's line 1.
