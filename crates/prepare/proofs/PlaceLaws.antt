@@ -22,13 +22,6 @@ pub record Parted (P : ℕ → Bool) (d₀ : List ℕ) (k : ℕ) (d : List ℕ) 
   pub are : d ≡ keep P (below k) ++ drop n d₀
 
 module _ {P : ℕ → Bool} {d₀ : List ℕ} where
-  pub parted-first : Parted P d₀ 0 d₀ 0
-  parted-first = record { few = omega arith; same = refl; many = refl; are = sym (drop-zero d₀) }
-    where
-      drop-zero : (l : List ℕ) → drop 0 l ≡ l
-      drop-zero [] = refl
-      drop-zero (x ∷ l) = refl
-
   pub parted-next : {k n : ℕ} {d : List ℕ} → Parted P d₀ k d n → k < length d₀ → (b : Bool) → b ≡ P k → {n' : ℕ} {d' : List ℕ} → n' ≡ cond b (n + 1) n → d' ≡ cond b (set d n k) d → Parted P d₀ (k + 1) d' n'
   parted-next {k} {n} {d} x h true e {n'} {d'} en ed =
       let K = keep P (below k) in
@@ -73,6 +66,3 @@ module _ (kinds : List ℕ) (q x : ℕ) where
   pub kind-is : tag_w x ≡ 2 → eqb (get_or kinds (arg_w x) 0) q ≡ kind_word kinds q x
   unfolding kind_word
   kind-is e = sym (ap (λ b. b && eqb (get_or kinds (arg_w x) 0) q) (eq-eqb (tag_w x) 2 e))
-
-  pub kind-beyond : 0 < q → tag_w x ≡ 2 → length kinds ≤ arg_w x → false ≡ kind_word kinds q x
-  kind-beyond l e h = sym (ap (λ k. eqb k q) (get_or-eq_default kinds 0 h) ∙ ne_eqb 0 q (λ i. omega arith)) ∙ kind-is e
