@@ -41,7 +41,7 @@ reverse Forward = Backward
 reverse Backward = Forward
 reverse BothWays = BothWays
 
--- a condition stands against a link along field m from t to u: it is of that field, t demands it, and u refuses it; no condition stands against none
+-- a condition stands against a link along field m from t to u: it is of that field, t demands it, and u refuses it; where there is none, nothing does
 unfoldable pub clash : List ℕ → List ℕ → Option Condition → ℕ → ℕ → ℕ → Bool
 unfolding selects reverse
 clash ms ln None m t u = false

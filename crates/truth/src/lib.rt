@@ -105,14 +105,12 @@ fn leaf_block(ms: &[u64], ln: &[u8], tw: &mut [u64], w: usize, i: usize)
     let x = ms[i];
     let g = tag(x);
     fill_block(tw, w, i, g == 0);
-    if g < 2 {
-        return;
+    if g >= 2 {
+        add_place(tw, w, i, find_place(ms, ln, 2, arg(x), 0), false);
     }
-    add_place(tw, w, i, find_place(ms, ln, 2, arg(x), 0), false);
-    if g == 2 {
-        return;
+    if g == 3 {
+        turn_block(tw, w, i);
     }
-    turn_block(tw, w, i);
 }
 
 // Block i becomes what member i, an until or a release, says of the next types: whether it is an until.
