@@ -42,7 +42,7 @@ fn turned<const LACK: bool>(x: u64) -> u64
     x
 }
 
-// The same for k to k + 3.
+// Answers k to k + 3 of the types that `pass_word` asks for.
 fn four<const LACK: bool>(cw: &[u64], w: usize, r: u64, k: usize) -> [u64; 4]
     requires { (w * 64 ≤ length cw.now) × (k + 4 ≤ w) }
     ensures { Fours (passing w cw.now r LACK) k result }

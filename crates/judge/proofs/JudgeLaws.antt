@@ -56,9 +56,6 @@ pub record Judging (goals : ℕ → List ℕ) (n r : ℕ) : Type 0 where
   pub none : (q : ℕ) → q < r → goals q ≡ []
 
 module _ {goals : ℕ → List ℕ} {n : ℕ} where
-  pub judge-start : Judging goals n 0
-  judge-start = record { within = omega arith; none = λ q h. absurd (omega arith) }
-
   pub judge-moved : {r q : ℕ} → Judging goals n r → q ≡ r → Judging goals n q
   judge-moved j e = subst (λ k. Judging goals n k) (sym e) j
 

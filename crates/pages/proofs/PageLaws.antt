@@ -1,6 +1,6 @@
 -- Filling a page, naming after naming: what one naming more makes of the verdict and of the bytes. Assumes nothing.
 use mathlib.Core.Path.{◌≡◌, refl, sym, ap, ap₂, ◌∙◌, subst}
-use mathlib.Core.List.{List, [], ◌∷◌, ◌++◌, append_assoc, append-nil}
+use mathlib.Core.List.{List, [], ◌∷◌, ◌++◌, append_assoc}
 use mathlib.Core.Logic.{◌⊎◌, inl, inr}
 use Rattle.std.specs.Prelude.{Option, Some, None}
 use Prim.Native.Nat.{ℕ, ◌+◌, ◌≤◌, ◌<◌}
@@ -23,7 +23,7 @@ use Rattle.buffer.specs.Put.{Put}
 use Rattle.buffer.proofs.PutLaws.{put_front}
 use Rattle.pages.specs.Later.{later_of}
 use Rattle.pages.specs.Pages.{Paged, row_at, rows}
-use Rattle.pages.proofs.RowLaws.{rows_next, rows_none}
+use Rattle.pages.proofs.RowLaws.{rows_next}
 
 -- ---- the verdict on one naming more
 
@@ -73,18 +73,6 @@ pub record Paging (line goals : ℕ → List ℕ) (start : Naming) (used : ℕ) 
   pub second-long : length second ≡ 64
 
 module _ {line goals : ℕ → List ℕ} {start : Naming} {used : ℕ} {out₀ : List ℕ} where
-  pub paging-start : {first second : List ℕ} {v : Verdict} → start.number ≤ start.count → Judged goals start.number v → length first ≡ 64 → length second ≡ 64 → Paging line goals start used out₀ out₀ first second v used start
-  paging-start h j a b = record {
-    text = sym (append-nil (take used out₀)) ∙ ap (λ l. take used out₀ ++ l) (sym (rows_none line start.number));
-    onward = omega arith;
-    within = h;
-    same_count = refl;
-    judged = j;
-    out-same = refl;
-    first-long = a;
-    second-long = b;
-  }
-
   module _ {out first second : List ℕ} {v : Verdict} {k : ℕ} {n : Naming} (p : Paging line goals start used out₀ out first second v k n) where
     pub paging-next : n.number < n.count → k ≤ length out → {l out' : List ℕ} {k' : ℕ} → Put k l out out' k' → l ≡ line n.number → length out' ≡ length out → {first' second' : List ℕ} → length first' ≡ length first → length second' ≡ length second
         → {f : Option ℕ} {a : Verdict} {m : Naming} → f ≡ first_of (goals n.number) → a ≡ later_of v n.number f → m ≡ next_of n → Paging line goals start used out₀ out' first' second' a k' m
@@ -120,6 +108,3 @@ module _ {line goals : ℕ → List ℕ} {start : Naming} {used : ℕ} {out₀ :
 
     pub first-room : {w : ℕ} → w ≤ 64 → w ≤ length first
     first-room h = let a = p.first-long in omega arith
-
-    pub second-room : {w : ℕ} → w ≤ 64 → w ≤ length second
-    second-room h = let a = p.second-long in omega arith
