@@ -6,6 +6,7 @@ mod cleaned;
 mod progress;
 
 ghost use Rattle.std.specs.Prelude.{◌≡◌, ◌++◌, ◌≤◌, ◌<◌, length, take};
+ghost use Rattle.refusal.specs.Number.{number_of};
 ghost use Rattle.limits.specs.Limits.{refusal_under};
 ghost use Rattle.tableau.specs.Families.{Ready};
 ghost use Rattle.judge.specs.Judged.{Places};
@@ -19,6 +20,7 @@ use frame::Setup;
 use judge::Verdict;
 use limits::Limits;
 use pages::fill_page;
+use refusal::Refusal;
 use std::io::{Stderr, Stdout};
 
 // Hands the next lines of the sheet's text to the output: the first `done` lines, which it has, and these bytes are the first `next`. The limits, the sheet and the newline are
@@ -105,16 +107,16 @@ fn refused(
     stderr: Stderr,
     l: Limits,
     sheet: &[u8],
-    k: u8,
+    why: Refusal,
     newline: &[u8],
     done: &mut u64,
 )
     requires done_value { done.old ≡ 0 }
-    requires k_value { (k ≡ refusal_under l sheet.now) × ((k ≡ 0 → ⊥) × (length newline.now ≤ 16)) }
+    requires why_value { (number_of why ≡ refusal_under l sheet.now) × (length newline.now ≤ 16) }
     ensures { done.new ≡ length (lines_of l sheet.now newline.now) }
 {
     let mut out = [0u8; 128];
-    let n = lines::put_refused(&mut out, 0, k, newline);
+    let n = lines::put_refused(&mut out, 0, why.number(), newline);
     write_lines(stdout, stderr, l, sheet, newline, done, 1, &out[..n]);
 }
 
@@ -211,12 +213,14 @@ pub fn report(stdout: Stdout, stderr: Stderr, l: Limits, sheet: &[u8], newline: 
 {
     let mut done = 0u64;
     let end = ending(newline);
-    let u = frame::set_up(l, sheet);
-    let k = u.refusal;
-    if k != 0 {
-        refused(stdout, stderr, l, sheet, k, end, &mut done);
-        return done;
+    match frame::set_up(l, sheet) {
+        Ok(u) => {
+            accepted(stdout, stderr, l, sheet, u, end, &mut done);
+            done
+        }
+        Err(why) => {
+            refused(stdout, stderr, l, sheet, why, end, &mut done);
+            done
+        }
     }
-    accepted(stdout, stderr, l, sheet, u, end, &mut done);
-    done
 }
