@@ -6,7 +6,6 @@ use corpus_text::number::at_most;
 use corpus_text::outcome::{write_operation, write_refusal};
 use corpus_text::store::fill;
 use corpus_text::sums::write_book;
-use lockgraph::BookAnswer;
 
 // The words of a short store: most are, and clearing the longest would cost more than the call.
 const SHORT: usize = 512;
@@ -22,9 +21,9 @@ fn book_in<const N: usize>(call: Call, length: u64)
     let store = &mut words[..at_most(length, N)];
     fill(store);
     match lockgraph::book_within(call.limits, call.sheet, store) {
-        BookAnswer::Refused(k) => write_refusal(call.out, k, store),
-        BookAnswer::Done { namings, words } => {
-            write_book(call.out, store, (namings as usize).saturating_mul(words));
+        Err(why) => write_refusal(call.out, why.number(), store),
+        Ok(b) => {
+            write_book(call.out, store, (b.namings as usize).saturating_mul(b.words));
         }
     }
 }

@@ -4,7 +4,6 @@ use corpus_text::cleaned::write_clean;
 use corpus_text::number::at_most;
 use corpus_text::outcome::{write_operation, write_refusal};
 use corpus_text::store::fill;
-use lockgraph::CleanAnswer;
 
 pub fn clean(call: Call, length: u64) {
     let mut bytes = [0u8; 2048];
@@ -12,7 +11,7 @@ pub fn clean(call: Call, length: u64) {
     fill(store);
     write_operation(call.out, call.line);
     match lockgraph::clean_within(call.limits, call.sheet, store) {
-        CleanAnswer::Refused(k) => write_refusal(call.out, k, store),
-        CleanAnswer::Done { length } => write_clean(call.out, store, length),
+        Err(why) => write_refusal(call.out, why.number(), store),
+        Ok(long) => write_clean(call.out, store, long),
     }
 }

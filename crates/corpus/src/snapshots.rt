@@ -6,7 +6,6 @@ use corpus_text::outcome::{write_operation, write_refusal};
 use corpus_text::rows::write_row;
 use corpus_text::store::fill;
 use corpus_text::text::unescape;
-use lockgraph::SnapshotAnswer;
 
 // The outcome for a text that is escaped, unless it is none. A longer one than the store is as wrong as one that just fills it.
 pub fn snapshot(call: Call, escaped: &[u8], length: u64) -> Option<()> {
@@ -16,8 +15,8 @@ pub fn snapshot(call: Call, escaped: &[u8], length: u64) -> Option<()> {
     fill(row);
     write_operation(call.out, call.line);
     match lockgraph::snapshot_within(call.limits, call.sheet, text.as_slice(), row) {
-        SnapshotAnswer::Refused(k) => write_refusal(call.out, k, row),
-        SnapshotAnswer::Done { nodes } => write_row(call.out, row, nodes),
+        Err(why) => write_refusal(call.out, why.number(), row),
+        Ok(nodes) => write_row(call.out, row, nodes),
     }
     Some(())
 }

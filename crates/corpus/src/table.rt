@@ -4,11 +4,11 @@ use corpus_text::number::at_most;
 use corpus_text::outcome::{write_count, write_end, write_operation, write_refused, write_words};
 use corpus_text::output::write_text;
 use corpus_text::store::{fill, kept, same_words};
-use lockgraph::TableAnswer;
+use lockgraph::{Refusal, Tabled};
 use std::io::Stdout;
 
 // The part handed back is of the first store. Both hold the same words, so the first one's word 0 is complemented for the while: only its part shows that.
-fn is_first(first: &mut [u64], second: &[u64], answer: TableAnswer) -> bool {
+fn is_first(first: &mut [u64], second: &[u64], answer: Result<Tabled, Refusal>) -> bool {
     let Some(&word) = first.first() else {
         return false;
     };
@@ -19,7 +19,7 @@ fn is_first(first: &mut [u64], second: &[u64], answer: TableAnswer) -> bool {
 }
 
 // The part handed back has the words promised, both stores have the same ones, and nothing else is written.
-fn as_promised(first: &[u64], second: &[u64], answer: TableAnswer, words: usize) -> bool {
+fn as_promised(first: &[u64], second: &[u64], answer: Result<Tabled, Refusal>, words: usize) -> bool {
     lockgraph::part(first, second, answer).len() == words
         && same_words(first, second, words)
         && kept(first, words)
@@ -27,7 +27,7 @@ fn as_promised(first: &[u64], second: &[u64], answer: TableAnswer, words: usize)
 }
 
 // Which store the part handed back is of, and its words.
-fn write_part(out: Stdout, first: &mut [u64], second: &[u64], answer: TableAnswer) {
+fn write_part(out: Stdout, first: &mut [u64], second: &[u64], answer: Result<Tabled, Refusal>) {
     if is_first(first, second, answer) {
         write_text(out, b" first");
     } else {
@@ -37,23 +37,18 @@ fn write_part(out: Stdout, first: &mut [u64], second: &[u64], answer: TableAnswe
 }
 
 // What the answer says, and whether the stores are as it promises.
-fn write_answer(out: Stdout, first: &mut [u64], second: &[u64], answer: TableAnswer) {
+fn write_answer(out: Stdout, first: &mut [u64], second: &[u64], answer: Result<Tabled, Refusal>) {
     match answer {
-        TableAnswer::Refused(k) => {
-            write_refused(out, k);
+        Err(why) => {
+            write_refused(out, why.number());
             write_end(out, as_promised(first, second, answer, 0));
         }
-        TableAnswer::Done {
-            words,
-            start,
-            left,
-            rounds,
-        } => {
+        Ok(t) => {
             write_part(out, first, second, answer);
-            write_count(out, b" start ", start);
-            write_count(out, b" left ", left);
-            write_count(out, b" rounds ", rounds);
-            write_end(out, as_promised(first, second, answer, words));
+            write_count(out, b" start ", t.start);
+            write_count(out, b" left ", t.left);
+            write_count(out, b" rounds ", t.rounds);
+            write_end(out, as_promised(first, second, answer, t.words));
         }
     }
 }

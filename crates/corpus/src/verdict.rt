@@ -3,21 +3,21 @@ use crate::call::Call;
 use corpus_text::outcome::{write_operation, write_refused};
 use corpus_text::output::{write_decimal, write_text};
 use corpus_text::text::write_escaped;
-use lockgraph::VerdictAnswer;
+use lockgraph::Verdict;
 use std::io::Stderr;
 
 pub fn verdict(call: Call) {
     let out = call.out;
     write_operation(out, call.line);
     match lockgraph::verdict_within(call.limits, call.sheet) {
-        VerdictAnswer::Refused(k) => write_refused(out, k),
-        VerdictAnswer::Open { naming, least } => {
+        Err(why) => write_refused(out, why.number()),
+        Ok(Verdict::Open { naming, least }) => {
             write_text(out, b" open ");
             write_decimal(out, naming);
             write_text(out, b" ");
             write_decimal(out, least as u64);
         }
-        VerdictAnswer::Unsatisfiable => write_text(out, b" unsatisfiable - -"),
+        Ok(Verdict::Unsatisfiable) => write_text(out, b" unsatisfiable - -"),
     }
     write_text(out, b"\n");
 }
@@ -26,11 +26,11 @@ pub fn goal(call: Call) {
     let out = call.out;
     write_operation(out, call.line);
     match lockgraph::refusal_within(call.limits, call.sheet) {
-        0 => {
+        None => {
             write_text(out, b" ");
             write_escaped(out, lockgraph::goal_text_within(call.limits, call.sheet));
         }
-        k => write_refused(out, k),
+        Some(why) => write_refused(out, why.number()),
     }
     write_text(out, b"\n");
 }

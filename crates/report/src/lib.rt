@@ -82,13 +82,13 @@ fn write_pages(
 }
 
 // Writes the only line of a refused sheet.
-fn refused(job: &Job<'_>, done: &mut u64, e: Refusal)
+fn refused(job: &Job<'_>, done: &mut u64, why: Refusal)
     requires done_value { done.old ≡ 0 }
-    requires refused { (number_of e ≡ refusal_in job.now) × (length job.now.newline.now ≤ 16) }
+    requires why_value { (number_of why ≡ refusal_in job.now) × (length job.now.newline.now ≤ 16) }
     ensures { done.new ≡ length (lines_in job.now) }
 {
     let mut out = [0u8; 128];
-    let n = lines::put_refused(&mut out, 0, e.number(), job.newline);
+    let n = lines::put_refused(&mut out, 0, why.number(), job.newline);
     write_lines(job, done, 1, &out[..n]);
 }
 
@@ -150,7 +150,7 @@ pub fn report(stdout: Stdout, stderr: Stderr, l: Limits, sheet: &[u8], newline: 
     let mut done = 0u64;
     match frame::set_up(l, sheet) {
         Ok(u) => accepted(&job, &mut done, &u),
-        Err(e) => refused(&job, &mut done, e),
+        Err(why) => refused(&job, &mut done, why),
     }
     done
 }
