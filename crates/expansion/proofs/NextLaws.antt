@@ -7,24 +7,12 @@ use native.Mathlib.Omega.{arith}
 use Rattle.ctl.specs.Formula.{Form, ex, ax}
 use Rattle.ctl.specs.Closure.{or_spine, and_spine, ex_spine, ax_spine}
 use Rattle.members.specs.Grown.{Ready}
-use Rattle.members.specs.Members.{form_by, Canon, c-tru, c-fls, c-and, c-or, c-ex, c-ax, word_of}
+use Rattle.members.specs.Members.{Canon, c-tru, c-fls, c-and, c-or, c-ex, c-ax, word_of}
 use Rattle.members.proofs.ModeListLaws.{modes-from}
-use Rattle.expansion.specs.Operators.{each_of, join_all, join_form, join_spine, join_tag, next_form, next_spine, next_tag, unit_form, unit_tag}
+use Rattle.expansion.specs.Operators.{each_of, join_all, join_form, join_spine, join_tag, next_form, next_spine, next_tag, unit_tag}
 use Rattle.members.specs.ModeLists.{modes_from}
 
 -- ---- laws
-
-form-next : (b : Bool) (A : ℕ) (p q : Form) → form_by (next_tag b) A p q ≡ next_form b A p
-form-next true A p q = refl
-form-next false A p q = refl
-
-form-join : (b : Bool) (p q : Form) → form_by (join_tag b) 0 p q ≡ join_form b p q
-form-join true p q = refl
-form-join false p q = refl
-
-form-unit : (b : Bool) (p q : Form) → form_by (unit_tag b) 0 p q ≡ unit_form b
-form-unit true p q = refl
-form-unit false p q = refl
 
 pub canon-next : {n : ℕ} (b : Bool) {A l : ℕ} → A < 65536 → l < n → Canon n (word_of (next_tag b) A l 0)
 canon-next true h k = c-ex h k

@@ -1,4 +1,4 @@
--- `closure::close` meets its contract: before each turn the table holds the closure of the formulas passed (CloseLaws). Assumes nothing.
+-- `close` meets its contract: before each turn the table holds the closure of the formulas passed (CloseLaws). Assumes nothing.
 use Rattle.closure.proofs.CloseLaws.{Closing}
 use Rattle.closure.proofs.close.Given as goal
 

@@ -1,4 +1,4 @@
--- `closure::letter` meets its contract: by the laws of SignLaws. Assumes nothing.
+-- `letter` meets its contract: by the laws of SignLaws. Assumes nothing.
 use Rattle.members.proofs.StepLaws.{was-added, ready-then}
 use Rattle.closure.proofs.SignLaws.{asks-lit, asks-nlit, letter-plain, letter-full, letter-full-2, letter-last}
 use Rattle.closure.proofs.letter.Goals as goal

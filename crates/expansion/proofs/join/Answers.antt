@@ -1,4 +1,4 @@
--- `closure::join` meets its contract: it makes the member of the tag that `join_tag` gives. Assumes nothing.
+-- `join` meets its contract: it makes the member of the tag that `join_tag` gives. Assumes nothing.
 use Rattle.expansion.proofs.NextLaws.{asks-join}
 use Rattle.expansion.proofs.join.Goals as goal
 

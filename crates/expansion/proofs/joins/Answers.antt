@@ -1,4 +1,4 @@
--- `closure::joins` meets its contract: by the laws of StrongLaws. Assumes nothing.
+-- `joins` meets its contract: by the laws of StrongLaws. Assumes nothing.
 use Rattle.members.proofs.StepLaws.{was-added}
 use Rattle.expansion.proofs.StrongLaws.{joins-asks, joins-full, joins-last}
 use Rattle.expansion.proofs.joins.Goals as goal

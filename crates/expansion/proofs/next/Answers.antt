@@ -1,4 +1,4 @@
--- `closure::next` meets its contract: by the laws of EachLaws. Assumes nothing.
+-- `next` meets its contract: by the laws of EachLaws. Assumes nothing.
 use native.Mathlib.Omega.{arith}
 use Rattle.members.proofs.StepLaws.{was-added, ready-then}
 use Rattle.expansion.proofs.EachLaws.{next-full, next-none-full, next-none, next-some-full, next-some}

@@ -1,4 +1,4 @@
--- `closure::next_one` meets its contract: it makes the member of the tag that `next_tag` gives. Assumes nothing.
+-- `next_one` meets its contract: it makes the member of the tag that `next_tag` gives. Assumes nothing.
 use Rattle.expansion.proofs.NextLaws.{asks-next}
 use Rattle.expansion.proofs.next_one.Goals as goal
 

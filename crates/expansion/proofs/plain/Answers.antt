@@ -1,4 +1,4 @@
--- `closure::plain` meets its contract: by the laws of UntilLaws. Assumes nothing.
+-- `plain` meets its contract: by the laws of UntilLaws. Assumes nothing.
 use Rattle.expansion.proofs.UntilLaws.{asks-plain, plain-asks, plain-asks-2, plain-asks-3, plain-full, plain-full-2, plain-full-3, plain-full-4, plain-last}
 use Rattle.expansion.proofs.plain.Goals as goal
 

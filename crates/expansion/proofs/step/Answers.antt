@@ -1,4 +1,4 @@
--- `closure::step` meets its contract: by the laws of StrongLaws. Assumes nothing.
+-- `step` meets its contract: by the laws of StrongLaws. Assumes nothing.
 use Rattle.expansion.proofs.StrongLaws.{step-asks, step-asks-2, step-asks-3, step-full, step-full-2, step-full-3, step-last}
 use Rattle.expansion.proofs.step.Goals as goal
 

@@ -1,4 +1,4 @@
--- `closure::strong` meets its contract: by the laws of StrongLaws. Assumes nothing.
+-- `strong` meets its contract: by the laws of StrongLaws. Assumes nothing.
 use Rattle.expansion.proofs.UntilLaws.{asks-strong}
 use Rattle.expansion.proofs.StrongLaws.{strong-asks, strong-asks-2, strong-full, strong-full-2, strong-full-3, strong-last}
 use Rattle.expansion.proofs.strong.Goals as goal

@@ -1,4 +1,4 @@
--- `closure::unit` meets its contract: it makes the member of the tag that `unit_tag` gives. Assumes nothing.
+-- `unit` meets its contract: it makes the member of the tag that `unit_tag` gives. Assumes nothing.
 use Rattle.expansion.proofs.NextLaws.{asks-unit}
 use Rattle.expansion.proofs.unit.Goals as goal
 

@@ -1,4 +1,4 @@
--- `members::intern` meets its contract: the word is found, new, or there is no room for it (StepLaws). Assumes nothing.
+-- `intern` meets its contract: the word is found, new, or there is no room for it (StepLaws). Assumes nothing.
 use mathlib.Core.Path.{sym, ◌∙◌}
 use native.Mathlib.Omega.{arith}
 use Rattle.members.proofs.StepLaws.{word-found, word-new, word-full}

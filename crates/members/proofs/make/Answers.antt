@@ -1,4 +1,4 @@
--- `closure::make` meets its contract: a word of its parts stands for the formula that `form_by` gives. Assumes nothing.
+-- `make` meets its contract: a word of its parts stands for the formula that `form_by` gives. Assumes nothing.
 use mathlib.Core.Path.{ap, ◌∙◌}
 use lib.ListN.{take}
 use Rattle.members.specs.Members.{forms, form_of}
