@@ -18,7 +18,7 @@ use Rattle.buffer.proofs.PutLaws.{put-join, put-none, put_one}
 use Rattle.layout.specs.Layout.{all_word, any_long, goal_word, unlines}
 use Rattle.clean.specs.Clean.{formula_lines}
 use Rattle.clean.specs.Written.{Among, length_by, lines_at}
-use Rattle.clean.specs.declared.Length.TheVariants.{Over, Bytes}
+use Rattle.std.specs.Prelude.{Some, None}
 
 -- the word before formula i of so many
 abbrev pub word_by : ℕ → ℕ → List ℕ
@@ -61,22 +61,21 @@ module _ (tab : List ℕ) (n : ℕ) (ls places : List ℕ) where
 
 -- where i lines have been measured: none of those is too long, and they and the rest are all
 pub record Summed (tab : List ℕ) (n : ℕ) (ls places : List ℕ) (from i size : ℕ) : Type 0 where
-  pub within : i ≤ length places
   pub small : size ≤ from + 201 * i
   pub same-long : any_long (rest_at tab n ls places i) ≡ any_long (lines_at tab n ls places)
   pub same_size : size + length (unlines (rest_at tab n ls places i)) ≡ from + length (unlines (lines_at tab n ls places))
 
 pub summed-start : {tab : List ℕ} {n : ℕ} {ls places : List ℕ} {from : ℕ} → Summed tab n ls places from 0 from
-summed-start = record { within = omega arith; small = omega arith; same-long = refl; same_size = refl }
+summed-start = record { small = omega arith; same-long = refl; same_size = refl }
 
 module _ {tab : List ℕ} {n : ℕ} {ls places : List ℕ} {from i size : ℕ} (x : Summed tab n ls places from i size) where
-  pub summed-all : length places ≤ i → Bytes size ≡ length_by from (lines_at tab n ls places)
+  pub summed-all : length places ≤ i → Some size ≡ length_by from (lines_at tab n ls places)
   unfolding any_long unlines
   summed-all h =
       let e = rest-none tab n ls places i h in
       let z = x.same_size in
       let a = ap (λ (r : List (List ℕ)). length (unlines r)) e in
-      rw (← x.same-long, e) (ap Bytes (omega arith))
+      rw (← x.same-long, e) (ap Some (omega arith))
 
   module _ {lens : List ℕ} (p : Printable tab n lens ls) (m : Among n places) (h : i < length places) {word : ℕ} (w : length (word_by i (length places)) ≡ word) where
     abbrev line : List ℕ
@@ -85,7 +84,7 @@ module _ {tab : List ℕ} {n : ℕ} {ls places : List ℕ} {from i size : ℕ} (
     line-long : length line ≡ word + get_or lens (get_or places i 0) 0
     line-long = length-append (word_by i (length places)) (print_at ls (take n tab) (get_or places i 0)) ∙ ap₂ (λ a b. a + b) w (sym (p.measured (get_or places i 0) (m i h)))
 
-    pub summed-over : 200 - word < get_or lens (get_or places i 0) 0 → Over ≡ length_by from (lines_at tab n ls places)
+    pub summed-over : 200 - word < get_or lens (get_or places i 0) 0 → None ≡ length_by from (lines_at tab n ls places)
     unfolding any_long
     summed-over o = rw (← x.same-long, rest-line tab n ls places i h, lt-ltb 200 (length line) (let l = line-long in omega arith))
 
@@ -97,7 +96,6 @@ module _ {tab : List ℕ} {n : ℕ} {ls places : List ℕ} {from i size : ℕ} (
         let z = x.small in
         let k : length line ≤ 200 = omega arith in
         record {
-          within = omega arith;
           small = omega arith;
           same-long = ap (λ b. b || any_long (rest_at tab n ls places (i + 1))) (sym (le-ltb 200 (length line) k)) ∙ (ap any_long (sym e) ∙ x.same-long);
           same_size = (let q = x.same_size in let a = ap (λ (r : List (List ℕ)). length (unlines r)) e in let b = length-append line (10 ∷ unlines (rest_at tab n ls places (i + 1))) in omega arith);
@@ -107,7 +105,6 @@ module _ {tab : List ℕ} {n : ℕ} {ls places : List ℕ} {from i size : ℕ} (
 
 -- where i lines have been put: they and the rest are the whole text
 pub record Lined (tab : List ℕ) (n : ℕ) (ls places : List ℕ) (at : ℕ) (out₀ out : List ℕ) (i used : ℕ) : Type 0 where
-  pub within : i ≤ length places
   pub done : List ℕ
   pub put : Put at done out₀ out used
   pub whole : done ++ unlines (rest_at tab n ls places i) ≡ unlines (lines_at tab n ls places)
@@ -123,7 +120,6 @@ worded p l e o q = record { put = rw (e, o, q) p; long = ap length o ∙ l }
 
 pub lined-start : {tab : List ℕ} {n : ℕ} {ls places : List ℕ} {at : ℕ} {out : List ℕ} → Lined tab n ls places at out out 0 at
 lined-start {at = at} {out = out} = record {
-  within = omega arith;
   done = [];
   put = put-none at out;
   whole = refl;
@@ -179,7 +175,6 @@ module _ {tab : List ℕ} {n : ℕ} {ls places : List ℕ} {at : ℕ} {out₀ ou
             let r = print-room in
             let a = line-room in
             record {
-              within = omega arith;
               done = x.done ++ (word ++ (shown ++ (10 ∷ [])));
               put = put-join (omega arith) x.put (put-join (omega arith) w.put (put-join (omega arith) p (put_one out₂ k 10 room-newline)));
               whole = simp append_assoc (simp append_assoc at (ap (λ r. x.done ++ unlines r) (sym (rest-line tab n ls places i h)) ∙ x.whole));

@@ -29,24 +29,23 @@ use Rattle.reader.specs.Reader.{Says, forms}
 use Rattle.reader.proofs.SpellLaws.{spell-line}
 use Rattle.clean.specs.Clean.{clean_lines, clean_text, clean_wrong, formula_lines}
 use Rattle.clean.specs.Written.{Among, length_by, lines_at, Written}
-use Rattle.clean.specs.declared.Length.{Length}
-use Rattle.clean.specs.declared.Length.TheVariants.{Over, Bytes}
+use Rattle.std.specs.Prelude.{Option, Some, None}
 
 -- ---- a sheet's clean text, or that it does not fit
 
 module _ (s d : List ℕ) where
-  written_over : clean_wrong s (length d) ≡ true → Written s d Over d
+  written_over : clean_wrong s (length d) ≡ true → Written s d None d
   written_over e = record { answer = rw e; store-holds = rw e }
 
-  written-fits : {d' : List ℕ} → clean_wrong s (length d) ≡ false → d' ≡ clean_text s ++ drop (length (clean_text s)) d → Written s d (Bytes (length (clean_text s))) d'
+  written-fits : {d' : List ℕ} → clean_wrong s (length d) ≡ false → d' ≡ clean_text s ++ drop (length (clean_text s)) d → Written s d (Some (length (clean_text s))) d'
   written-fits e h = record { answer = rw e; store-holds = rw e h }
 
 -- which answer a measure of lines is
-over-out : (b : Bool) (k : ℕ) → cond b Over (Bytes k) ≡ Over → b ≡ true
+over-out : (b : Bool) (k : ℕ) → cond b None (Some k) ≡ None → b ≡ true
 over-out true k e = refl
 over-out false k e = absurd (let z : ◌≡◌ {A = ℕ} 0 1 = cc in omega arith)
 
-bytes-out : (b : Bool) (k : ℕ) {n : ℕ} → cond b Over (Bytes k) ≡ Bytes n → (b ≡ false) × (n ≡ k)
+bytes-out : (b : Bool) (k : ℕ) {n : ℕ} → cond b None (Some k) ≡ Some n → (b ≡ false) × (n ≡ k)
 bytes-out true k e = absurd (let z : ◌≡◌ {A = ℕ} 0 1 = cc in omega arith)
 bytes-out false k e = (refl, cc)
 
@@ -147,12 +146,12 @@ module _ {s : List ℕ} {r : Reading} (g : Given s r) where
     unfolding any_long
     long-is = rw (le-ltb 200 (length (line_of s 0)) (line-short s (right-length s g.read) 0), le-ltb 200 (length (line_of s 1)) (line-short s (right-length s g.read) 1)) (ap any_long (sym lines_are))
 
-    module _ {o : Length} (e : o ≡ length_by from ls) where
-      pub over-lines : {d : List ℕ} → o ≡ Over → Written s d Over d
+    module _ {o : Option ℕ} (e : o ≡ length_by from ls) where
+      pub over-lines : {d : List ℕ} → o ≡ None → Written s d None d
       unfolding clean_wrong
       over-lines {d} i = written_over s d (rw (long-is, over-out (any_long ls) (from + length (unlines ls)) (sym e ∙ i)))
 
-      module _ {size : ℕ} (i : o ≡ Bytes size) where
+      module _ {size : ℕ} (i : o ≡ Some size) where
         measured : (any_long ls ≡ false) × (size ≡ from + length (unlines ls))
         measured = bytes-out (any_long ls) (from + length (unlines ls)) (sym e ∙ i)
 
@@ -164,10 +163,10 @@ module _ {s : List ℕ} {r : Reading} (g : Given s r) where
         unfolding clean_wrong
         wrong-is n = rw (long-is, measured.0, size_is)
 
-        pub over-text : {d : List ℕ} → 1024 < size → Written s d Over d
+        pub over-text : {d : List ℕ} → 1024 < size → Written s d None d
         over-text {d} h = written_over s d (wrong-is (length d) ∙ rw (lt-ltb 1024 size h))
 
-        pub over-store : {d : List ℕ} → size ≤ 1024 → length d < size → Written s d Over d
+        pub over-store : {d : List ℕ} → size ≤ 1024 → length d < size → Written s d None d
         over-store {d} k h = written_over s d (wrong-is (length d) ∙ rw (le-ltb 1024 size k, lt-ltb (length d) size h))
 
         pub front-room : {n : ℕ} → size ≤ n → 0 + length (take from s) ≤ n
@@ -177,7 +176,7 @@ module _ {s : List ℕ} {r : Reading} (g : Given s r) where
           pub lines-room : length d₁ ≡ length d → at + length (unlines ls) ≤ length d₁
           lines-room l = let a = measured.1 in let b = length-take-le from s front.0 in let c = p.used in omega arith
 
-          pub text-put : {d₂ : List ℕ} {n : ℕ} → size ≤ 1024 → Put at (unlines ls) d₁ d₂ n → Written s d (Bytes size) d₂
+          pub text-put : {d₂ : List ℕ} {n : ℕ} → size ≤ 1024 → Put at (unlines ls) d₁ d₂ n → Written s d (Some size) d₂
           text-put k q =
               let w : clean_wrong s (length d) ≡ false = wrong-is (length d) ∙ rw (le-ltb 1024 size k, le-ltb (length d) size h) in
               let t = (put-join (omega arith) p q).holds in

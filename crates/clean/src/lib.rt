@@ -18,14 +18,7 @@ use print::put_print;
 use prints::measure;
 use reader::Reading;
 
-// How many bytes a text has; or that it, or one of its lines, is too long.
-#[derive(Clone, Copy)]
-pub enum Length {
-    Over,
-    Bytes(usize),
-}
-
-// The length of `from` bytes and a line for each formula, with its newline, where their prints are so long.
+// The length of `from` bytes and a line for each formula, with its newline, where their prints are so long; none if one of these is too long.
 fn measure_lines(
     tab: &[u64],
     n: usize,
@@ -33,23 +26,21 @@ fn measure_lines(
     words: &[u64],
     places: &[usize],
     from: usize,
-) -> Length
+) -> Option<usize>
     requires printable { Printable tab.now n lens.now words.now × Among n places.now }
     requires places_len_bound { (length places.now ≤ 5) × (from ≤ 1024) }
     ensures { result ≡ length_by from (lines_at tab.now n words.now places.now) }
 {
     let mut size = from;
-    let mut i = 0;
-    while i < places.len() {
+    for (i, &place) in places.iter().enumerate() {
         let word = if i + 1 < places.len() { 4 } else { 5 };
-        let long = lens[places[i]];
+        let long = lens[place];
         if 200 - word < long {
-            return Length::Over;
+            return None;
         }
         size += word + long + 1;
-        i += 1;
     }
-    Length::Bytes(size)
+    Some(size)
 }
 
 // Puts a line for each formula, the last one the goal, behind the bytes that the store holds.
@@ -66,23 +57,21 @@ fn put_lines(
     ensures { Put at (unlines (lines_at tab.now n words.now places.now)) out.old out.new result }
 {
     let mut used = at;
-    let mut i = 0;
-    while i < places.len() {
+    for (i, &place) in places.iter().enumerate() {
         if i + 1 < places.len() {
             used = put(out, used, b"all ");
         } else {
             used = put(out, used, b"goal ");
         }
-        used = put_print(tab, n, words, places[i], out, used);
-        out[used] = 10;
+        used = put_print(tab, n, words, place, out, used);
+        out[used] = b'\n';
         used += 1;
-        i += 1;
     }
     used
 }
 
-// The clean text of a sheet, at the beginning of a store; or that it does not fit, and then nothing is written.
-pub fn write_clean(sheet: &[u8], r: Reading, store: &mut [u8]) -> Length
+// The clean text of a sheet, at the beginning of a store: its length; none if it does not fit, and then nothing is written.
+pub fn write_clean(sheet: &[u8], r: Reading, store: &mut [u8]) -> Option<usize>
     requires { (read_refusal sheet.now ≡ 0) × Says sheet.now r }
     ensures { Written sheet.now store.old result store.new }
 {
@@ -92,21 +81,19 @@ pub fn write_clean(sheet: &[u8], r: Reading, store: &mut [u8]) -> Length
     let mut lens = [0usize; 136];
     measure(&members, r.count, &mut lens, &words[..r.symbols]);
     let from = layout::third_line(sheet);
-    let Length::Bytes(size) = measure_lines(
+    let size = measure_lines(
         &members,
         r.count,
         &lens,
         &words[..r.symbols],
         &places[..r.formulas],
         from,
-    ) else {
-        return Length::Over;
-    };
+    )?;
     if 1024 < size {
-        return Length::Over;
+        return None;
     }
     if store.len() < size {
-        return Length::Over;
+        return None;
     }
     let at = put(store, 0, &sheet[..from]);
     put_lines(
@@ -117,5 +104,5 @@ pub fn write_clean(sheet: &[u8], r: Reading, store: &mut [u8]) -> Length
         store,
         at,
     );
-    Length::Bytes(size)
+    Some(size)
 }

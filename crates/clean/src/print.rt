@@ -4,6 +4,7 @@ ghost use Rattle.buffer.specs.Put.{Put};
 ghost use Rattle.members.specs.Grown.{Ready};
 ghost use Rattle.prints.specs.Prints.{pre_by, print_at};
 
+use members::parts::{arg, left, right, tag};
 use prints::{mid_byte, pre_byte, pre_len};
 
 // What stands before a member's first operand.
@@ -12,14 +13,10 @@ fn put_pre(words: &[u64], t: u64, a: u64, out: &mut [u8], n: usize) -> usize
     ensures { Put n (pre_by words.now t a) out.old out.new result }
 {
     let h = pre_len(words, t, a);
-    let mut k = 0;
-    let mut at = n;
-    while k < h {
-        out[at] = pre_byte(words, t, a, h, k);
-        k += 1;
-        at += 1;
+    for k in 0..h {
+        out[n + k] = pre_byte(words, t, a, h, k);
     }
-    at
+    n + h
 }
 
 // The print of member i.
@@ -29,22 +26,17 @@ pub fn put_print(tab: &[u64], n: usize, words: &[u64], i: usize, out: &mut [u8],
     ensures { Put at (print_at words.now (take n tab.now) i) out.old out.new result }
 {
     let w = tab[i];
-    let t = w % 16;
-    let at = put_pre(words, t, w / 16 % 65536, out, at);
+    let t = tag(w);
+    let at = put_pre(words, t, arg(w), out, at);
     if t < 4 {
         return at;
     }
-    let left = (w / 1048576 % 256) as usize;
-    let at = put_print(tab, n, words, left, out, at);
-    if t == 6 {
-        return at;
-    }
-    if t == 7 {
+    let at = put_print(tab, n, words, left(w), out, at);
+    if t == 6 || t == 7 {
         return at;
     }
     out[at] = mid_byte(t);
-    let right = (w / 268435456 % 256) as usize;
-    let at = put_print(tab, n, words, right, out, at + 1);
-    out[at] = 41;
+    let at = put_print(tab, n, words, right(w), out, at + 1);
+    out[at] = b')';
     at + 1
 }

@@ -17,10 +17,8 @@ fn copy_places(places: &[usize], n: usize, to: &mut [u8])
     requires by_index { (j : ℕ) → j < n → get_or places.now j 0 < 256 }
     ensures { take n to.new ≡ take n places.now }
 {
-    let mut k = 0;
-    while k < n {
+    for k in 0..n {
         to[k] = places[k] as u8;
-        k += 1;
     }
 }
 
@@ -99,32 +97,24 @@ pub struct Setup {
 pub fn set_up(l: Limits, s: &[u8]) -> Result<Setup, Refusal>
     ensures { SetUp l s.now result }
 {
-    let reading = limits::read(l, s)?;
-    let members = reading.members;
-    let lean = reading.lean;
-    let kinds = reading.kinds;
-    let places = reading.places;
-    let count = reading.count;
-    let width = reading.width;
-    let symbols = reading.symbols;
-    let formulas = reading.formulas;
+    let r = limits::read(l, s)?;
     let mut everywhere = [0u8; 8];
     let mut named = [0u8; 12];
     let mut valued = [0u8; 12];
     let f = frame_of(
-        &members[..count],
-        &lean[..width],
-        &kinds[..symbols],
-        &places[..formulas],
+        &r.members[..r.count],
+        &r.lean[..r.width],
+        &r.kinds[..r.symbols],
+        &r.places[..r.formulas],
         &mut everywhere,
         &mut named,
         &mut valued,
     );
     Ok(Setup {
-        count,
-        members,
-        width,
-        lean,
+        count: r.count,
+        members: r.members,
+        width: r.width,
+        lean: r.lean,
         globals: f.globals,
         everywhere,
         names: f.names,
@@ -141,10 +131,7 @@ pub fn set_up(l: Limits, s: &[u8]) -> Result<Setup, Refusal>
 pub fn is_small(n: usize, w: usize) -> bool
     ensures { result ≡ true → (n ≤ 72) × (w ≤ 4) }
 {
-    if 72 < n {
-        return false;
-    }
-    w <= 4
+    n <= 72 && w <= 4
 }
 
 // Truth words, condition words and needs, and in `base` the types that hold one value and in which all globals are true, by whether they
@@ -180,18 +167,13 @@ pub fn fill(u: Setup, tw: &mut [u64], cw: &mut [u64], ns: &mut [u64], base: &mut
     ensures upper_bound { (result ≤ length ns.new) × Ready (members_in u) (lean_in u) u.words tw.new cw.new (take result ns.new) }
     ensures based { Based u.words (in_base (members_in u) (lean_in u) (globals_in u) (values_in u)) (names_in u) base.new }
 {
-    let members = u.members;
-    let lean = u.lean;
-    let everywhere = u.everywhere;
-    let valued = u.valued;
-    let named = u.named;
     fill_words(
-        &members[..u.count],
-        &lean[..u.width],
+        &u.members[..u.count],
+        &u.lean[..u.width],
         u.words,
-        &everywhere[..u.globals],
-        &valued[..u.values],
-        &named[..u.names],
+        &u.everywhere[..u.globals],
+        &u.valued[..u.values],
+        &u.named[..u.names],
         tw,
         cw,
         ns,

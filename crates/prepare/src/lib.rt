@@ -5,19 +5,14 @@ ghost use Rattle.std.specs.Prelude.{◌≡◌, cond, ◌+◌, ◌≤◌, ◌<◌
 ghost use Rattle.prepare.specs.Places.{kind_word, places_by, Sought, Found};
 ghost use Rattle.prepare.specs.Width.{words_for};
 
+use members::parts::{arg, tag};
+
 // Whether a member's word is a symbol of a kind.
+#[tactic(auto, unfolding(crate::specs::Places::kind_word))]
 fn is_kind(x: u64, kinds: &[u8], kind: u8) -> bool
-    requires { 0 < kind }
     ensures { result ≡ kind_word kinds.now kind x }
 {
-    if x % 16 != 2 {
-        return false;
-    }
-    let a = (x / 16 % 65536) as usize;
-    if a < kinds.len() {
-        return kinds[a] == kind;
-    }
-    false
+    tag(x) == 2 && kinds.get(arg(x) as usize).copied().unwrap_or(0) == kind
 }
 
 // x at place n if on is true; the place after.
@@ -37,12 +32,10 @@ pub fn kind_places(ms: &[u64], ln: &[u8], kinds: &[u8], kind: u8, store: &mut [u
     requires { (0 < kind) × Sought ms.now ln.now store.old }
     ensures { Found (places_by kind ms.now ln.now kinds.now) store.old store.new result }
 {
-    let mut n: usize = 0;
-    let mut k: usize = 0;
-    while k < ln.len() {
-        let is = is_kind(ms[ln[k] as usize], kinds, kind);
+    let mut n = 0;
+    for (k, &i) in ln.iter().enumerate() {
+        let is = is_kind(ms[usize::from(i)], kinds, kind);
         n = put_if(store, n, k as u8, is);
-        k += 1;
     }
     n
 }

@@ -5,7 +5,7 @@ use mathlib.Core.List.{List, [], ◌∷◌, map}
 use Prim.Native.Nat.{ℕ, zero, suc, ◌+◌, ◌-◌, ◌^◌, ◌≤◌, ◌<◌}
 use native.Mathlib.Omega.{arith}
 use lib.ListN.{length, get_or, take, length-map}
-use Rattle.std.specs.Prelude.{Result, Ok, Err}
+use Rattle.std.specs.Prelude.{Option, Some, None, Result, Ok, Err}
 use Rattle.std.specs.Result.{IsErr, IsErrAnd}
 use Rattle.refusal.specs.declared.Refusal.{Refusal}
 use Rattle.refusal.specs.Number.{number_of}
@@ -39,12 +39,10 @@ use Rattle.values.specs.Values.{is_value, value_forms, Extended}
 use Rattle.values.proofs.TableLaws.{tabled-with}
 use Rattle.prints.specs.Prints.{spell_at}
 use Rattle.lean.proofs.LengthLaws.{member-length, spell-short}
-use Rattle.lean.specs.Leaned.{Leaning, Leans, Leaned, LeanIs, leaned, packed, LeanAs}
+use Rattle.lean.specs.Leaned.{Leaning, Leans, Leaned, LeanIs, LeanAs}
 use Rattle.closure.proofs.GivenLaws.{over-fits, over-signed}
 use Rattle.closure.specs.declared.Closed.{Closed}
 use Rattle.closure.specs.declared.Closed.TheVariants.{Within, Beyond}
-use Rattle.lean.specs.declared.Gathered.{Gathered}
-use Rattle.lean.specs.declared.Gathered.TheVariants.{Count, Crowded}
 use Rattle.reader.specs.declared.Reading.{Reading}
 use Rattle.reader.specs.Reader.{forms, members, tabled, places, refusal_within, Says, ReadIs, RootsAre}
 use Rattle.spelling.specs.Spelling.{word}
@@ -211,22 +209,18 @@ module _ {s tab' : List ℕ} {h : Sheet} (x : (sheet_refusal s ≡ 0) × Right s
               pub leans : Leans tab₂ v ls
               leans = record { formulas = tabled s; count = length (spellings s); leaning = leaning }
 
-              module _ {l l' : List ℕ} (room : length l ≡ 12) {g : Gathered} (gathered : LeanAs tab₂ v ls l l' g) where
+              module _ (l l' : List ℕ) (room : length l ≡ 12) (g : Option ℕ) (gathered : LeanAs tab₂ v ls l l' g) where
                 lean-case : LeanIs (places s) (take v tab₂) l l' g
                 lean-case = subst (λ k. LeanIs (lean k (tabled s)) (take v tab₂) l l' g) (spell-line s line) (gathered (tabled s) (length (spellings s)) leaning)
 
-                pub refused-crowded : g ≡ Crowded → refusal_within most wide s ≡ 10
-                refused-crowded q = go (subst (LeanIs (places s) (take v tab₂) l l') q lean-case)
-                  where
-                    go : LeanIs (places s) (take v tab₂) l l' Crowded → refusal_within most wide s ≡ 10
-                    go (packed k n) = within-ten most wide s none (let c = table_is.count in omega arith) (omega arith)
+                pub refused-crowded : g ≡ None → refusal_within most wide s ≡ 10
+                refused-crowded q =
+                    let k = subst (LeanIs (places s) (take v tab₂) l l') q lean-case in
+                    within-ten most wide s none (let c = table_is.count in omega arith) (omega (arith, k.0))
 
-                module _ {w : ℕ} (q : g ≡ Count w) where
+                module _ {w : ℕ} (q : g ≡ Some w) where
                   width_is : Leaned (places s) (take v tab₂) l l' w
-                  width_is = go (subst (LeanIs (places s) (take v tab₂) l l') q lean-case)
-                    where
-                      go : LeanIs (places s) (take v tab₂) l l' (Count w) → Leaned (places s) (take v tab₂) l l' w
-                      go (leaned x) = x
+                  width_is = subst (LeanIs (places s) (take v tab₂) l l') q lean-case
 
                   pub refused-wide : wide < w → refusal_within most wide s ≡ 10
                   refused-wide k = let c = width_is.count in within-ten most wide s none (let d = table_is.count in omega arith) (omega arith)

@@ -5,7 +5,6 @@ ghost use Rattle.std.specs.Prelude.{◌≡◌, ◌-◌, ◌≤◌, ◌<◌, leng
 ghost use Rattle.reader.specs.Reader.{RootsAre, ReadIs};
 
 use closure::Closed;
-use lean::Gathered;
 use refusal::Refusal;
 
 // What a sheet says: its symbols' spellings as words and kinds (1 mark, 2 name, 3 field, 4 value); the members of its closure and behind them the values that do not occur, each a
@@ -62,7 +61,7 @@ fn read_in(s: &[u8], most: usize, wide: usize, nodes: &mut [u64]) -> Result<Read
     let count = values::with_values(&kinds[..symbols], &mut members, closed);
     let words = sheet.words;
     let mut lean = [0u8; 12];
-    let Gathered::Count(width) = lean::lean_of(&members, count, &words[..symbols], &mut lean) else {
+    let Some(width) = lean::lean_of(&members, count, &words[..symbols], &mut lean) else {
         return Err(Refusal::Lean);
     };
     if wide < width {

@@ -22,12 +22,12 @@ loop-i-init c = summed-start
 pub offset_bounds-places-i : goal.offset_bounds-places-i
 offset_bounds-places-i c = omega arith
 
-pub offset_bounds-lens-places : goal.offset_bounds-lens-places
-offset_bounds-lens-places c =
+pub offset_bounds-lens-place : goal.offset_bounds-lens-place
+offset_bounds-lens-place c =
     omega (arith, c.requires.printable.1 c.loop-i.i c.loop-i-test.true)
 
-pub bounds-lens-places : goal.bounds-lens-places
-bounds-lens-places c =
+pub bounds-lens-place : goal.bounds-lens-place
+bounds-lens-place c =
     omega (arith, c.requires.printable.1 c.loop-i.i c.loop-i-test.true)
 
 pub overflow_sub-word : goal.overflow_sub-word

@@ -1,11 +1,6 @@
 -- `clean::measure_lines` meets its contract: at each turn the measured lines and those that are left are all of them (LineText). Assumes nothing.
-use Prim.Native.Nat.{◌-◌}
-use lib.ListN.{length}
 use Rattle.clean.proofs.LineText.{Summed}
 use Rattle.clean.proofs.measure_lines.Given as goal
 
 abbrev pub invariant-loop-i : goal.invariant-loop-i
 invariant-loop-i l = Summed l.tab l.n l.words l.places l.from l.i l.size
-
-abbrev pub decreases-loop-i : goal.decreases-loop-i
-decreases-loop-i l = length l.places - l.i

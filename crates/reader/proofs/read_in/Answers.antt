@@ -1,6 +1,8 @@
 -- `read_in` meets its contract, a return for each refusal, and one for a sheet that has none. Assumes nothing.
 use Rattle.reader.proofs.ReadLaws.{refused-read, lines-within, closes, refused-beyond, refused-many, still-few, kinds-within, symbols-within, words-line, values-ask, leans, refused-crowded, refused-wide, accepted-is}
 use mathlib.Core.Path.{refl, sym}
+use native.Mathlib.Omega.{arith}
+use Rattle.std.specs.Prelude.{replicate}
 use lib.Seq.{length-take-le}
 use Rattle.reader.proofs.read_in.Goals as goal
 
@@ -57,7 +59,7 @@ shape_of-nodes-in_default-lean_of c =
 
 pub returns-in_default-lean_of : goal.returns-in_default-lean_of
 returns-in_default-lean_of c =
-    refused-crowded c.in_ok-sheet.ensures (still-few c.read_sheet.auto.tab c.requires.nodes_nonzero.0) c.roots_of-roots.ensures c.requires.most_bound.0 refl c.close.ensures c.in-Within.is c.if-most-closed.false c.requires.most_bound.1 c.with_values-count.ensures (words-line c.in_ok-sheet.ensures (still-few c.read_sheet.auto.tab c.requires.nodes_nonzero.0)) refl c.lean_of.ensures c.in_default-lean_of.is
+    refused-crowded c.in_ok-sheet.ensures (still-few c.read_sheet.auto.tab c.requires.nodes_nonzero.0) c.roots_of-roots.ensures c.requires.most_bound.0 refl c.close.ensures c.in-Within.is c.if-most-closed.false c.requires.most_bound.1 c.with_values-count.ensures (words-line c.in_ok-sheet.ensures (still-few c.read_sheet.auto.tab c.requires.nodes_nonzero.0)) (replicate 12 0) c.lean_of.new.lean refl _ c.lean_of.ensures c.in_default-lean_of.is
 
 pub shape_of-nodes-then-wide-width : goal.shape_of-nodes-then-wide-width
 shape_of-nodes-then-wide-width c =
@@ -65,8 +67,8 @@ shape_of-nodes-then-wide-width c =
 
 pub returns-then-wide-width : goal.returns-then-wide-width
 returns-then-wide-width c =
-    refused-wide c.in_ok-sheet.ensures (still-few c.read_sheet.auto.tab c.requires.nodes_nonzero.0) c.roots_of-roots.ensures c.requires.most_bound.0 refl c.close.ensures c.in-Within.is c.if-most-closed.false c.requires.most_bound.1 c.with_values-count.ensures (words-line c.in_ok-sheet.ensures (still-few c.read_sheet.auto.tab c.requires.nodes_nonzero.0)) refl c.lean_of.ensures c.in-Count.is c.if-wide-width.true
+    refused-wide c.in_ok-sheet.ensures (still-few c.read_sheet.auto.tab c.requires.nodes_nonzero.0) c.roots_of-roots.ensures c.requires.most_bound.0 refl c.close.ensures c.in-Within.is c.if-most-closed.false c.requires.most_bound.1 c.with_values-count.ensures (words-line c.in_ok-sheet.ensures (still-few c.read_sheet.auto.tab c.requires.nodes_nonzero.0)) (replicate 12 0) c.lean_of.new.lean refl _ c.lean_of.ensures c.in-Some.is c.if-wide-width.true
 
 pub returns : goal.returns
 returns c =
-    accepted-is c.in_ok-sheet.ensures (still-few c.read_sheet.auto.tab c.requires.nodes_nonzero.0) c.roots_of-roots.ensures c.requires.most_bound.0 refl c.close.ensures c.in-Within.is c.if-most-closed.false c.requires.most_bound.1 c.with_values-count.ensures (words-line c.in_ok-sheet.ensures (still-few c.read_sheet.auto.tab c.requires.nodes_nonzero.0)) refl c.lean_of.ensures c.in-Count.is c.if-wide-width.false
+    accepted-is c.in_ok-sheet.ensures (still-few c.read_sheet.auto.tab c.requires.nodes_nonzero.0) c.roots_of-roots.ensures c.requires.most_bound.0 refl c.close.ensures c.in-Within.is c.if-most-closed.false c.requires.most_bound.1 c.with_values-count.ensures (words-line c.in_ok-sheet.ensures (still-few c.read_sheet.auto.tab c.requires.nodes_nonzero.0)) (replicate 12 0) c.lean_of.new.lean refl _ c.lean_of.ensures c.in-Some.is c.if-wide-width.false
