@@ -107,9 +107,3 @@ module _ {P : ℕ → ℕ → Bool} {w n : ℕ} {d : List ℕ} where
         is = whole;
         room = b.room;
       }
-
-  pub written-end : {l : List ℕ} {r : ℕ} → Written P w n d l r → n ≤ r → l ≡ tables_by w P n ++ drop (n * w) d
-  written-end {r} b h =
-      let i = b.within in
-      let q : r ≡ n = omega arith in
-      b.is ∙ ap (λ (m : ℕ). tables_by w P m ++ drop (m * w) d) q

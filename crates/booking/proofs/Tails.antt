@@ -12,9 +12,6 @@ module _ (xs : List ℕ) (a : ℕ) where
   pub tail-lent : take (length xs - a) (drop a xs) ≡ drop a xs
   tail-lent = take_all (length xs - a) (drop a xs) (le_of_eq (length-drop a xs))
 
-  pub tail-length : length (take (length xs - a) (drop a xs)) ≡ length xs - a
-  tail-length = ap length tail-lent ∙ length-drop a xs
-
   -- the whole, after that part came back as ys
   pub tail-back : (ys : List ℕ) → put_mid a (length xs - a) xs ys ≡ take a xs ++ ys
   tail-back ys =

@@ -25,9 +25,7 @@ use Rattle.closure.specs.Given.{Reads, Adds, Given}
 use Rattle.members.proofs.MemberLaws.{forms-length}
 use Rattle.members.proofs.StepLaws.{◌⊆◌, grows_none, grows_then, grows_at, too-many-then, drop-later, was-added, was-full}
 use Rattle.members.specs.declared.Added.{Added}
-use Rattle.members.specs.declared.Added.TheVariants.{At, Full}
-use Rattle.closure.specs.declared.Closed.{Closed}
-use Rattle.closure.specs.declared.Closed.TheVariants.{Within, Beyond}
+use Rattle.std.proofs.Common.{Option, Some, None}
 
 -- ---- the closure of a longer list
 
@@ -96,15 +94,17 @@ module _ (fs : List Form) (tab₀ places₀ : List ℕ) where
         split-take (suc k) [] = refl
         split-take (suc k) (x ∷ l) = ap (λ r. x ∷ r) (split-take k l)
 
-    too_many : {tab' : List ℕ} {a : Added} → Answer tab n tab' (closure_of f) f a → a ≡ Full → length tab₀ < length (closure fs)
+    too_many : {tab' : List ℕ} {a : Option Added} → Answer tab n tab' (closure_of f) f a → a ≡ None → length tab₀ < length (closure fs)
     unfolding forms forms_from
     too_many w e =
         let o = too-many-then (closure_of f) s.grows (was-full w e) in
         let h = unique-length o.list (closure fs) o.unique (λ p m. closure-in fs p (all-within p (subst (λ l. p ∈ l) (sym next-all) (o.inside p m)))) in
         let l = o.long in let e = s.same in omega arith
 
-    next : {tab' : List ℕ} {a : Added} {i m : ℕ} → Answer tab n tab' (closure_of f) f a → a ≡ At i m → length tab' ≡ length tab → k < length places → Sofar fs tab₀ places₀ tab' (set places k i) m (k + 1)
-    next {tab'} {a} {i} {m} w e same room =
+    next : {tab' : List ℕ} {a : Option Added} {x : Added} → Answer tab n tab' (closure_of f) f a → a ≡ Some x → length tab' ≡ length tab → k < length places → Sofar fs tab₀ places₀ tab' (set places k x.index) x.count (k + 1)
+    next {tab'} {a} {x} w e same room =
+        let i = x.index in
+        let m = x.count in
         let d = was-added w e in
         let r = s.ready in record {
           most = omega arith;
@@ -122,23 +122,23 @@ module _ (fs : List Form) (tab₀ places₀ : List ℕ) where
         later j l = elim (dec_le k j) [ yes g ↦ inr (omega arith) | no g ↦ inl (omega arith) ]
 
         D : Type 0
-        D = Done tab n tab' (closure_of f) f i m
+        D = Done tab n tab' (closure_of f) f x.index x.count
 
-        here : (j : ℕ) → j ≡ k → get_or (set places k i) j 0 ≡ i
-        here j e = subst (λ j. get_or (set places k i) j 0 ≡ i) (sym e) (get_or-set_same places k i 0 room)
+        here : (j : ℕ) → j ≡ k → get_or (set places k x.index) j 0 ≡ x.index
+        here j e = subst (λ j. get_or (set places k x.index) j 0 ≡ x.index) (sym e) (get_or-set_same places k x.index 0 room)
 
-        there : (j : ℕ) → j < k → get_or (set places k i) j 0 ≡ get_or places j 0
-        there j l = get_or-set_other places k j i 0 (λ e. omega arith)
+        there : (j : ℕ) → j < k → get_or (set places k x.index) j 0 ≡ get_or places j 0
+        there j l = get_or-set_other places k j x.index 0 (λ e. omega arith)
 
-        below : (j : ℕ) → j < k + 1 → D → (j < k) ⊎ (j ≡ k) → get_or (set places k i) j 0 < m
+        below : (j : ℕ) → j < k + 1 → D → (j < k) ⊎ (j ≡ k) → get_or (set places k x.index) j 0 < x.count
         below j l d (inl g) = let u = d.up in let v = s.below j g in omega (arith, there j g)
         below j l d (inr e) = let u = d.below in omega (arith, here j e)
 
-        place : (j : ℕ) → j < k + 1 → D → (j < k) ⊎ (j ≡ k) → get_or (forms (take m tab')) (get_or (set places k i) j 0) tru ≡ get_or fs j tru
-        place j l d (inl g) = ap (λ x. get_or (forms (take m tab')) x tru) (there j g) ∙ grows_at d.grows (get_or places j 0) (let v = s.below j g in omega (arith, length-take-le n tab s.ready.room)) ∙ s.at j g
-        place j l d (inr e) = ap (λ x. get_or (forms (take m tab')) x tru) (here j e) ∙ d.is ∙ sym (ap (λ x. get_or fs x tru) e ∙ f-is)
+        place : (j : ℕ) → j < k + 1 → D → (j < k) ⊎ (j ≡ k) → get_or (forms (take x.count tab')) (get_or (set places k x.index) j 0) tru ≡ get_or fs j tru
+        place j l d (inl g) = ap (λ y. get_or (forms (take x.count tab')) y tru) (there j g) ∙ grows_at d.grows (get_or places j 0) (let v = s.below j g in omega (arith, length-take-le n tab s.ready.room)) ∙ s.at j g
+        place j l d (inr e) = ap (λ y. get_or (forms (take x.count tab')) y tru) (here j e) ∙ d.is ∙ sym (ap (λ x. get_or fs x tru) e ∙ f-is)
 
-  last : {tab places : List ℕ} {n k : ℕ} → Sofar fs tab₀ places₀ tab places n k → length fs ≤ k → ClosedIs fs tab₀ tab places₀ places (Within n)
+  last : {tab places : List ℕ} {n k : ℕ} → Sofar fs tab₀ places₀ tab places n k → length fs ≤ k → ClosedIs fs tab₀ tab places₀ places (Some n)
   unfolding forms forms_from
   last {tab} {places} {n} {k} s h = within {m = n}
       (record {
@@ -201,7 +201,7 @@ module _ (ns roots tab₀ places₀ : List ℕ) (c : Closes ns roots tab₀ plac
     pub loop-same-places : length places ≡ length places₀
     loop-same-places = own.same-places
 
-    pub loop-last : length roots ≤ k → (ps : List Raw) → Given ns roots ps → ClosedIs (map positive ps) tab₀ tab places₀ places (Within n)
+    pub loop-last : length roots ≤ k → (ps : List Raw) → Given ns roots ps → ClosedIs (map positive ps) tab₀ tab places₀ places (Some n)
     loop-last h ps g = last (map positive ps) tab₀ places₀ (s.each ps g) (let e = many ps g in omega arith)
 
     module _ (h : k < length roots) where
@@ -211,7 +211,7 @@ module _ (ns roots tab₀ places₀ : List ℕ) (c : Closes ns roots tab₀ plac
       pub loop-reads : Reads ns (get_or roots k 0)
       loop-reads = let e = c.given.many in record { inside = c.roots-in k h; few = c.few; formula = get_or c.formulas k Raw.zero; at = c.given.at k h; fits = c.fits (get_or c.formulas k Raw.zero) (raw-in c.formulas k (omega arith)) }
 
-      module _ {tab' : List ℕ} {a : Added} (w : Adds ns (get_or roots k 0) true tab n tab' a) (same : length tab' ≡ length tab) where
+      module _ {tab' : List ℕ} {a : Option Added} (w : Adds ns (get_or roots k 0) true tab n tab' a) (same : length tab' ≡ length tab) where
         module _ (ps : List Raw) (g : Given ns roots ps) where
           is : get_or (map positive ps) k tru ≡ signed true (get_or ps k Raw.zero)
           is = forms-at ps k (let e = g.many in omega arith)
@@ -219,26 +219,26 @@ module _ (ns roots tab₀ places₀ : List ℕ) (c : Closes ns roots tab₀ plac
           inside : k < length (map positive ps)
           inside = let e = many ps g in omega arith
 
-        pub loop-beyond : a ≡ Full → (ps : List Raw) → Given ns roots ps → ClosedIs (map positive ps) tab₀ tab' places₀ places Beyond
+        pub loop-beyond : a ≡ None → (ps : List Raw) → Given ns roots ps → ClosedIs (map positive ps) tab₀ tab' places₀ places None
         loop-beyond e ps g = beyond (too_many (map positive ps) tab₀ places₀ tab places n k (s.each ps g) (inside ps g) (signed true (get_or ps k Raw.zero)) (is ps g) (w (get_or ps k Raw.zero) (g.at k h)) e) (same ∙ loop-same) loop-same-places
 
-        pub loop-next : {i m : ℕ} → a ≡ At i m → Closing ns roots tab₀ places₀ tab' (set places k i) m (k + 1)
+        pub loop-next : {x : Added} → a ≡ Some x → Closing ns roots tab₀ places₀ tab' (set places k x.index) x.count (k + 1)
         loop-next e = record { each = λ ps g. next (map positive ps) tab₀ places₀ tab places n k (s.each ps g) (inside ps g) (signed true (get_or ps k Raw.zero)) (is ps g) (w (get_or ps k Raw.zero) (g.at k h)) e same loop-room }
 
 -- ---- an answer, exactly
 
 module _ {fs : List Form} {tab tab' places places' : List ℕ} where
   -- how many members the closure has
-  pub was-within : {r : Closed} {m : ℕ} → ClosedIs fs tab tab' places places' r → r ≡ Within m → Tabled (closure fs) tab' m × Placed fs tab' places' m
+  pub was-within : {r : Option ℕ} {m : ℕ} → ClosedIs fs tab tab' places places' r → r ≡ Some m → Tabled (closure fs) tab' m × Placed fs tab' places' m
   was-within {m = m} (within {m = k} s p e b c) i = let q : k ≡ m = cc in subst (λ x. Tabled (closure fs) tab' x × Placed fs tab' places' x) q (s, p)
   was-within (beyond l e f) i = let z : ◌≡◌ {A = ℕ} 0 1 = cc in absurd (omega arith)
 
   -- it says the number of members exactly if there is room for them
-  pub within-exactly : {r : Closed} → ClosedIs fs tab tab' places places' r → (r ≡ Within (length (closure fs))) ↔ (length (closure fs) ≤ length tab)
-  within-exactly (within {m = m} s p e b c) = (λ i. (let a = s.room in let d = s.count in omega arith), λ h. ap Within s.count)
+  pub within-exactly : {r : Option ℕ} → ClosedIs fs tab tab' places places' r → (r ≡ Some (length (closure fs))) ↔ (length (closure fs) ≤ length tab)
+  within-exactly (within {m = m} s p e b c) = (λ i. (let a = s.room in let d = s.count in omega arith), λ h. ap Some s.count)
   within-exactly (beyond l e f) = (λ i. (let z : ◌≡◌ {A = ℕ} 0 1 = cc in absurd (omega arith)), λ h. absurd (omega arith))
 
   -- and that they are beyond exactly if there is none
-  pub beyond-exactly : {r : Closed} → ClosedIs fs tab tab' places places' r → (r ≡ Beyond) ↔ (length tab < length (closure fs))
+  pub beyond-exactly : {r : Option ℕ} → ClosedIs fs tab tab' places places' r → (r ≡ None) ↔ (length tab < length (closure fs))
   beyond-exactly (within {m = m} s p e b c) = (λ i. (let z : ◌≡◌ {A = ℕ} 0 1 = cc in absurd (omega arith)), λ h. absurd (let a = s.room in let d = s.count in omega arith))
   beyond-exactly (beyond l e f) = (λ i. l, λ h. refl)

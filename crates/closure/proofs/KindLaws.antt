@@ -91,15 +91,3 @@ module _ (a : ℕ) (p q : Raw) where
 
   pub sign-until : (b : Bool) (k o : ℕ) → 13 ≤ k → k < 17 → o ≡ k - 13 → signed b (raw_by k a p q) ≡ until_form o b a (signed (flip (eqb k 10) b) p) (signed b q)
   sign-until b k o h l e = let e' : k ≡ 13 + o = omega arith in subst (λ k. signed b (raw_by k a p q) ≡ until_form o b a (signed (flip (eqb k 10) b) p) (signed b q)) (sym e') (until-at b o (omega arith))
-
-pub unit-low : (o : ℕ) (b : Bool) → o < 2 → not b ≡ until_unit o b
-unit-low zero b h = refl
-unit-low (suc zero) b h = refl
-unit-low (suc (suc o)) b h = absurd (omega arith)
-
-pub unit-high : (o : ℕ) (b : Bool) → 2 ≤ o → b ≡ until_unit o b
-unit-high zero b h = absurd (omega arith)
-unit-high (suc zero) b h = absurd (omega arith)
-unit-high (suc (suc zero)) b h = refl
-unit-high (suc (suc (suc zero))) b h = refl
-unit-high (suc (suc (suc (suc o)))) b h = refl

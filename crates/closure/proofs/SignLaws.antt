@@ -22,7 +22,7 @@ use Rattle.expansion.proofs.EachLaws.{in_head}
 use Rattle.closure.proofs.KindLaws.{raw_by, sign-unit, sign-letter, sign-neg, sign-join, sign-next, sign-lone, sign-until}
 use Rattle.closure.proofs.NodeLaws.{Node, at-node, kind_n, arg_n, left_n}
 use Rattle.members.specs.declared.Added.{Added}
-use Rattle.members.specs.declared.Added.TheVariants.{At, Full}
+use Rattle.std.proofs.Common.{Option, Some, None}
 
 -- ---- closures of formulas by their outermost operator
 
@@ -58,12 +58,6 @@ closure-until (suc (suc zero)) b A p q = closure-strong (not b) A p q
 closure-until (suc (suc (suc zero))) b A p q = closure-plain (not b) A p q
 closure-until (suc (suc (suc (suc o)))) b A p q = closure-plain b A p q
 
--- ---- the operators of two operands
-
-module _ {tab : List ℕ} {n : ℕ} {tab' : List ℕ} {a : Added} (b : Bool) (A : ℕ) (p q : Form) where
-  pub until-is : (o k : ℕ) → o ≡ k → Answer tab n tab' (spine (until_form k b A p q)) (until_form k b A p q) a → Answer tab n tab' (spine (until_form o b A p q)) (until_form o b A p q) a
-  until-is o k e w = subst (λ x. Answer tab n tab' (spine (until_form x b A p q)) (until_form x b A p q) a) (sym e) w
-
 -- ---- symbols
 
 module _ {tab : List ℕ} {n : ℕ} (r : Ready tab n) {k : ℕ} (h : k < 65536) where
@@ -74,22 +68,22 @@ module _ {tab : List ℕ} {n : ℕ} (r : Ready tab n) {k : ℕ} (h : k < 65536) 
   asks-nlit = (r, (omega arith, (h, (omega arith, (omega arith, c-nlit h)))))
 
 module _ {tab : List ℕ} {n : ℕ} (b : Bool) (k : ℕ) where
-  pub letter-plain : {tab' : List ℕ} {a : Added} → b ≡ true → Answer tab n tab' (lit k ∷ []) (lit k) a → Answer tab n tab' (closure_of (letter_form b k)) (letter_form b k) a
+  pub letter-plain : {tab' : List ℕ} {a : Option Added} → b ≡ true → Answer tab n tab' (lit k ∷ []) (lit k) a → Answer tab n tab' (closure_of (letter_form b k)) (letter_form b k) a
   unfolding closure_of spine
   letter-plain {tab'} {a} e w = subst (λ c. Answer tab n tab' (closure_of (letter_form c k)) (letter_form c k) a) (sym e) w
 
-  negated : {tab' : List ℕ} {a : Added} → b ≡ false → Answer tab n tab' (nlit k ∷ (lit k ∷ [])) (nlit k) a → Answer tab n tab' (closure_of (letter_form b k)) (letter_form b k) a
+  negated : {tab' : List ℕ} {a : Option Added} → b ≡ false → Answer tab n tab' (nlit k ∷ (lit k ∷ [])) (nlit k) a → Answer tab n tab' (closure_of (letter_form b k)) (letter_form b k) a
   unfolding closure_of spine
   negated {tab'} {a} e w = subst (λ c. Answer tab n tab' (closure_of (letter_form c k)) (letter_form c k) a) (sym e) w
 
-  pub letter-full : {tab₁ tab' : List ℕ} {a : Added} → b ≡ false → Answer tab n tab₁ (nlit k ∷ []) (nlit k) a → a ≡ Full → Answer tab n tab' (closure_of (letter_form b k)) (letter_form b k) Full
+  pub letter-full : {tab₁ tab' : List ℕ} {a : Option Added} → b ≡ false → Answer tab n tab₁ (nlit k ∷ []) (nlit k) a → a ≡ None → Answer tab n tab' (closure_of (letter_form b k)) (letter_form b k) None
   letter-full e w i = negated e (first-full (sub-one in_head) w i)
 
   module _ (r : Ready tab n) {tab₁ : List ℕ} {i₁ n₁ : ℕ} (d : Done tab n tab₁ (nlit k ∷ []) (nlit k) i₁ n₁) (same : length tab₁ ≡ length tab) where
-    pub letter-full-2 : {tab₂ tab' : List ℕ} {a : Added} → b ≡ false → Answer tab₁ n₁ tab₂ (lit k ∷ []) (lit k) a → a ≡ Full → Answer tab n tab' (closure_of (letter_form b k)) (letter_form b k) Full
+    pub letter-full-2 : {tab₂ tab' : List ℕ} {a : Option Added} → b ≡ false → Answer tab₁ n₁ tab₂ (lit k ∷ []) (lit k) a → a ≡ None → Answer tab n tab' (closure_of (letter_form b k)) (letter_form b k) None
     letter-full-2 e w i = negated e (rest-full r d same (λ p m. m) w i)
 
-    pub letter-last : {tab₂ : List ℕ} {a : Added} {j m : ℕ} → b ≡ false → Answer tab₁ n₁ tab₂ (lit k ∷ []) (lit k) a → a ≡ At j m → Answer tab n tab₂ (closure_of (letter_form b k)) (letter_form b k) (At i₁ m)
+    pub letter-last : {tab₂ : List ℕ} {a : Option Added} {s : Added} → b ≡ false → Answer tab₁ n₁ tab₂ (lit k ∷ []) (lit k) a → a ≡ Some s → Answer tab n tab₂ (closure_of (letter_form b k)) (letter_form b k) (Some (record { index = i₁; count = s.count }))
     letter-last e w i = negated e (rest-still r d same (λ p m. m) (λ p m. m) w i)
 
 -- ---- the right operand's closure is in the whole's
@@ -105,7 +99,7 @@ in-until o b A p q {x} m = sub-eq (sym (closure-until o b A p q)) x (Memᴰ.appe
 
 -- ---- a node
 
-unit-closure : {tab : List ℕ} {n : ℕ} {tab' : List ℕ} {a : Added} (b : Bool) → Answer tab n tab' (unit_form b ∷ []) (unit_form b) a → Answer tab n tab' (closure_of (unit_form b)) (unit_form b) a
+unit-closure : {tab : List ℕ} {n : ℕ} {tab' : List ℕ} {a : Option Added} (b : Bool) → Answer tab n tab' (unit_form b ∷ []) (unit_form b) a → Answer tab n tab' (closure_of (unit_form b)) (unit_form b) a
 unit-closure {tab} {n} {tab'} {a} b w = subst (λ l. Answer tab n tab' l (unit_form b) a) (sym (closure-unit b)) w
 
 module _ (ns : List ℕ) (i : ℕ) (b : Bool) (tab : List ℕ) (n : ℕ) (p : Raw) (x : Node ns i p) where
@@ -127,19 +121,19 @@ module _ (ns : List ℕ) (i : ℕ) (b : Bool) (tab : List ℕ) (n : ℕ) (p : Ra
   abbrev L : Form
   L = signed (flip (eqb k 10) b) P
 
-  abbrev Want : List ℕ → Added → Type 0
+  abbrev Want : List ℕ → Option Added → Type 0
   Want tab' a = Answer tab n tab' (closure_of (signed b p)) (signed b p) a
 
-  as-node : {tab' : List ℕ} {a : Added} (f : Form) → signed b (raw_by k A P Q) ≡ f → Answer tab n tab' (closure_of f) f a → Want tab' a
+  as-node : {tab' : List ℕ} {a : Option Added} (f : Form) → signed b (raw_by k A P Q) ≡ f → Answer tab n tab' (closure_of f) f a → Want tab' a
   as-node {tab'} {a} f e w = subst (λ g. Answer tab n tab' (closure_of g) g a) (sym (ap (signed b) x.is ∙ e)) w
 
-  node-unit : {tab' : List ℕ} {a : Added} → k < 2 → (c : Bool) → c ≡ flip (eqb k 1) b → Answer tab n tab' (unit_form c ∷ []) (unit_form c) a → Want tab' a
+  node-unit : {tab' : List ℕ} {a : Option Added} → k < 2 → (c : Bool) → c ≡ flip (eqb k 1) b → Answer tab n tab' (unit_form c ∷ []) (unit_form c) a → Want tab' a
   node-unit l c e w = as-node (unit_form c) (sign-unit A P Q b k l ∙ ap unit_form (sym e)) (unit-closure c w)
 
-  node-letter : {tab' : List ℕ} {a : Added} → k ≡ 2 → Answer tab n tab' (closure_of (letter_form b A)) (letter_form b A) a → Want tab' a
+  node-letter : {tab' : List ℕ} {a : Option Added} → k ≡ 2 → Answer tab n tab' (closure_of (letter_form b A)) (letter_form b A) a → Want tab' a
   node-letter e w = as-node (letter_form b A) (sign-letter A P Q b k e) w
 
-  node-neg : {tab' : List ℕ} {a : Added} → k ≡ 3 → Answer tab n tab' (closure_of (signed (not b) Q)) (signed (not b) Q) a → Want tab' a
+  node-neg : {tab' : List ℕ} {a : Option Added} → k ≡ 3 → Answer tab n tab' (closure_of (signed (not b) Q)) (signed (not b) Q) a → Want tab' a
   node-neg e w = as-node (signed (not b) Q) (sign-neg A P Q b k e) w
 
   -- every kind above 3 has the right operand's closure in its own
@@ -156,11 +150,11 @@ module _ (ns : List ℕ) (i : ℕ) (b : Bool) (tab : List ℕ) (n : ℕ) (p : Ra
   ]
 
   -- no room for the right operand's closure
-  node-right-full : 3 < k → {tab₁ tab' : List ℕ} {a : Added} → Answer tab n tab₁ (closure_of R) R a → a ≡ Full → Want tab' Full
+  node-right-full : 3 < k → {tab₁ tab' : List ℕ} {a : Option Added} → Answer tab n tab₁ (closure_of R) R a → a ≡ None → Want tab' None
   node-right-full l w e = as-node (signed b (raw_by k A P Q)) refl (first-full (right-in l) w e)
 
   module _ (r : Ready tab n) {tab₁ : List ℕ} {i₁ n₁ : ℕ} (d₁ : Done tab n tab₁ (closure_of R) R i₁ n₁) (k₁ : length tab₁ ≡ length tab) where
-    node-next : {tab₂ : List ℕ} {a : Added} → 4 ≤ k → k < 6 → (c : Bool) → c ≡ flip (eqb k 5) b
+    node-next : {tab₂ : List ℕ} {a : Option Added} → 4 ≤ k → k < 6 → (c : Bool) → c ≡ flip (eqb k 5) b
         → Answer tab₁ n₁ tab₂ (next_spine c A (get_or (forms (take n₁ tab₁)) i₁ tru)) (next_form c A (get_or (forms (take n₁ tab₁)) i₁ tru)) a → Want tab₂ a
     node-next {tab₂} {a} g l c e w =
         as-node (next_form c A R) (sign-next A P Q b k g l ∙ ap (λ c. next_form c A R) (sym e))
@@ -174,10 +168,10 @@ module _ (ns : List ℕ) (i : ℕ) (b : Bool) (tab : List ℕ) (n : ℕ) (p : Ra
       left_in : closure_of R ++ closure_of M ⊆ closure_of f
       left_in p m = sub-eq (sym f-closure) p (sub-right S (closure_of M ++ closure_of R) p (sub-both {j = closure_of R} (sub-right (closure_of M) (closure_of R)) (sub-left (closure_of M) (closure_of R)) p m))
 
-      two-full : {tab₂ tab' : List ℕ} {a : Added} → Answer tab₁ n₁ tab₂ (closure_of M) M a → a ≡ Full → Want tab' Full
+      two-full : {tab₂ tab' : List ℕ} {a : Option Added} → Answer tab₁ n₁ tab₂ (closure_of M) M a → a ≡ None → Want tab' None
       two-full w e = as-node f f-is (rest-full r d₁ k₁ left_in w e)
 
-      two-last : {tab₂ : List ℕ} {i₂ n₂ : ℕ} → Done tab₁ n₁ tab₂ (closure_of M) M i₂ n₂ → length tab₂ ≡ length tab₁ → {tab₃ : List ℕ} {a : Added} → Answer tab₂ n₂ tab₃ S f a → Want tab₃ a
+      two-last : {tab₂ : List ℕ} {i₂ n₂ : ℕ} → Done tab₁ n₁ tab₂ (closure_of M) M i₂ n₂ → length tab₂ ≡ length tab₁ → {tab₃ : List ℕ} {a : Option Added} → Answer tab₂ n₂ tab₃ S f a → Want tab₃ a
       two-last {tab₂} {i₂} {n₂} d₂ k₂ {tab₃} {a} w = as-node f f-is
           (answer-same {l = (closure_of R ++ closure_of M) ++ S}
           (sub-both {j = closure_of R ++ closure_of M} left_in (λ p m. sub-eq (sym f-closure) p (sub-left S (closure_of M ++ closure_of R) p m)))
@@ -188,7 +182,7 @@ module _ (ns : List ℕ) (i : ℕ) (b : Bool) (tab : List ℕ) (n : ℕ) (p : Ra
     right_is d₂ k₂ = done_at (ready-then r d₁ k₁) d₂ k₂ i₁ d₁.below ∙ d₁.is
 
     -- `&`, `|` and `>`
-    node-join : 10 ≤ k → k < 13 → (c : Bool) → c ≡ flip (eqb k 12) b → {tab₂ : List ℕ} {i₂ n₂ : ℕ} → Done tab₁ n₁ tab₂ (closure_of L) L i₂ n₂ → length tab₂ ≡ length tab₁ → {tab₃ : List ℕ} {a : Added}
+    node-join : 10 ≤ k → k < 13 → (c : Bool) → c ≡ flip (eqb k 12) b → {tab₂ : List ℕ} {i₂ n₂ : ℕ} → Done tab₁ n₁ tab₂ (closure_of L) L i₂ n₂ → length tab₂ ≡ length tab₁ → {tab₃ : List ℕ} {a : Option Added}
         → Answer tab₂ n₂ tab₃ (join_form c (get_or (forms (take n₂ tab₂)) i₂ tru) (get_or (forms (take n₂ tab₂)) i₁ tru) ∷ []) (join_form c (get_or (forms (take n₂ tab₂)) i₂ tru) (get_or (forms (take n₂ tab₂)) i₁ tru)) a
         → Want tab₃ a
     node-join g l c e d₂ k₂ w = two-last L (join_form c L R) (join_form c L R ∷ []) (sign-join A P Q b k g l ∙ ap (λ c. join_form c L R) (sym e)) (closure-join c L R) d₂ k₂
@@ -196,10 +190,10 @@ module _ (ns : List ℕ) (i : ℕ) (b : Bool) (tab : List ℕ) (n : ℕ) (p : Ra
 
     -- operators of two operands, the left one M
     module _ (o : ℕ) (M : Form) (f-is : signed b (raw_by k A P Q) ≡ until_form o b A M R) where
-      node-until-full : {tab₂ tab' : List ℕ} {a : Added} → Answer tab₁ n₁ tab₂ (closure_of M) M a → a ≡ Full → Want tab' Full
+      node-until-full : {tab₂ tab' : List ℕ} {a : Option Added} → Answer tab₁ n₁ tab₂ (closure_of M) M a → a ≡ None → Want tab' None
       node-until-full w e = two-full M (until_form o b A M R) (spine (until_form o b A M R)) f-is (closure-until o b A M R) w e
 
-      node-until : {tab₂ : List ℕ} {i₂ n₂ : ℕ} → Done tab₁ n₁ tab₂ (closure_of M) M i₂ n₂ → length tab₂ ≡ length tab₁ → {tab₃ : List ℕ} {a : Added}
+      node-until : {tab₂ : List ℕ} {i₂ n₂ : ℕ} → Done tab₁ n₁ tab₂ (closure_of M) M i₂ n₂ → length tab₂ ≡ length tab₁ → {tab₃ : List ℕ} {a : Option Added}
           → Answer tab₂ n₂ tab₃ (spine (until_form o b A (get_or (forms (take n₂ tab₂)) i₂ tru) (get_or (forms (take n₂ tab₂)) i₁ tru))) (until_form o b A (get_or (forms (take n₂ tab₂)) i₂ tru) (get_or (forms (take n₂ tab₂)) i₁ tru)) a
           → Want tab₃ a
       node-until {tab₂} {i₂} {n₂} d₂ k₂ {tab₃} {a} w = two-last M (until_form o b A M R) (spine (until_form o b A M R)) f-is (closure-until o b A M R) d₂ k₂
@@ -211,7 +205,7 @@ module _ (ns : List ℕ) (i : ℕ) (b : Bool) (tab : List ℕ) (n : ℕ) (p : Ra
     pair_is : 13 ≤ k → signed b (raw_by k A P Q) ≡ until_form (k - 13) b A L R
     pair_is g = sign-until A P Q b k (k - 13) g x.kind refl
 
-    node-left-full : 10 ≤ k → {tab₂ tab' : List ℕ} {a : Added} → Answer tab₁ n₁ tab₂ (closure_of L) L a → a ≡ Full → Want tab' Full
+    node-left-full : 10 ≤ k → {tab₂ tab' : List ℕ} {a : Option Added} → Answer tab₁ n₁ tab₂ (closure_of L) L a → a ≡ None → Want tab' None
     node-left-full g w e = elim (dec_le k 12) [
       | yes l ↦ two-full L (join_form (flip (eqb k 12) b) L R) (join_form (flip (eqb k 12) b) L R ∷ []) (sign-join A P Q b k g (omega arith)) (closure-join (flip (eqb k 12) b) L R) w e
       | no l ↦ node-until-full (k - 13) L (pair_is (omega arith)) w e
@@ -226,58 +220,58 @@ module _ (ns : List ℕ) (i : ℕ) (b : Bool) (tab : List ℕ) (n : ℕ) (small 
   abbrev M : ℕ
   M = arg_n (get_or ns i 0)
 
-  pub at_unit : {tab' : List ℕ} {a : Added} → K < 2 → (c : Bool) → c ≡ flip (eqb K 1) b → Answer tab n tab' (unit_form c ∷ []) (unit_form c) a → Adds ns i b tab n tab' a
+  pub at_unit : {tab' : List ℕ} {a : Option Added} → K < 2 → (c : Bool) → c ≡ flip (eqb K 1) b → Answer tab n tab' (unit_form c ∷ []) (unit_form c) a → Adds ns i b tab n tab' a
   at_unit l c e w p h = node-unit ns i b tab n p (at-node ns i small p h) l c e w
 
-  pub at-letter : {tab' : List ℕ} {a : Added} → K ≡ 2 → Answer tab n tab' (closure_of (letter_form b M)) (letter_form b M) a → Adds ns i b tab n tab' a
+  pub at-letter : {tab' : List ℕ} {a : Option Added} → K ≡ 2 → Answer tab n tab' (closure_of (letter_form b M)) (letter_form b M) a → Adds ns i b tab n tab' a
   at-letter e w p h = node-letter ns i b tab n p (at-node ns i small p h) e w
 
-  pub at-neg : {tab' : List ℕ} {a : Added} → K ≡ 3 → Adds ns (i - 1) (not b) tab n tab' a → Adds ns i b tab n tab' a
+  pub at-neg : {tab' : List ℕ} {a : Option Added} → K ≡ 3 → Adds ns (i - 1) (not b) tab n tab' a → Adds ns i b tab n tab' a
   at-neg e w p h = let x = at-node ns i small p h in node-neg ns i b tab n p x e (w x.right (x.second (omega arith)))
 
-  pub at-right-full : {tab₁ tab' : List ℕ} {a : Added} → 3 < K → Adds ns (i - 1) b tab n tab₁ a → a ≡ Full → Adds ns i b tab n tab' Full
+  pub at-right-full : {tab₁ tab' : List ℕ} {a : Option Added} → 3 < K → Adds ns (i - 1) b tab n tab₁ a → a ≡ None → Adds ns i b tab n tab' None
   at-right-full l w e p h = let x = at-node ns i small p h in node-right-full ns i b tab n p x l (w x.right (x.second (omega arith))) e
 
-  module _ (r : Ready tab n) (op : 3 < K) {tab₁ : List ℕ} {a₁ : Added} {i₁ n₁ : ℕ} (w₁ : Adds ns (i - 1) b tab n tab₁ a₁) (e₁ : a₁ ≡ At i₁ n₁) (k₁ : length tab₁ ≡ length tab) where
-    right-done : {p : Raw} (x : Node ns i p) → Done tab n tab₁ (closure_of (signed b x.right)) (signed b x.right) i₁ n₁
+  module _ (r : Ready tab n) (op : 3 < K) {tab₁ : List ℕ} {a₁ : Option Added} {s₁ : Added} (w₁ : Adds ns (i - 1) b tab n tab₁ a₁) (e₁ : a₁ ≡ Some s₁) (k₁ : length tab₁ ≡ length tab) where
+    right-done : {p : Raw} (x : Node ns i p) → Done tab n tab₁ (closure_of (signed b x.right)) (signed b x.right) s₁.index s₁.count
     right-done x = was-added (w₁ x.right (x.second (omega arith))) e₁
 
-    pub at_next : {tab₂ : List ℕ} {a : Added} → K < 6 → (c : Bool) → c ≡ flip (eqb K 5) b
-        → Answer tab₁ n₁ tab₂ (next_spine c M (get_or (forms (take n₁ tab₁)) i₁ tru)) (next_form c M (get_or (forms (take n₁ tab₁)) i₁ tru)) a → Adds ns i b tab n tab₂ a
+    pub at_next : {tab₂ : List ℕ} {a : Option Added} → K < 6 → (c : Bool) → c ≡ flip (eqb K 5) b
+        → Answer tab₁ s₁.count tab₂ (next_spine c M (get_or (forms (take s₁.count tab₁)) s₁.index tru)) (next_form c M (get_or (forms (take s₁.count tab₁)) s₁.index tru)) a → Adds ns i b tab n tab₂ a
     at_next l c e w p h = let x = at-node ns i small p h in node-next ns i b tab n p x r (right-done x) k₁ op l c e w
 
     -- EF, AF, EG and AG
     module _ (g : 6 ≤ K) (l : K < 10) (c : Bool) (c-is : c ≡ until_unit (K - 6) b) where
-      pub at-lone-full : {tab₂ tab' : List ℕ} {a : Added} → Answer tab₁ n₁ tab₂ (unit_form c ∷ []) (unit_form c) a → a ≡ Full → Adds ns i b tab n tab' Full
+      pub at-lone-full : {tab₂ tab' : List ℕ} {a : Option Added} → Answer tab₁ s₁.count tab₂ (unit_form c ∷ []) (unit_form c) a → a ≡ None → Adds ns i b tab n tab' None
       at-lone-full w e p h = let x = at-node ns i small p h in
           node-until-full ns i b tab n p x r (right-done x) k₁ (K - 6) (unit_form c) (lone_is ns i b tab n p x r (right-done x) k₁ g l c c-is) (unit-closure c w) e
 
-      pub at-lone : {tab₂ : List ℕ} {a : Added} {i₂ n₂ : ℕ} → Answer tab₁ n₁ tab₂ (unit_form c ∷ []) (unit_form c) a → a ≡ At i₂ n₂ → length tab₂ ≡ length tab₁ → {tab₃ : List ℕ} {a₃ : Added}
-          → Answer tab₂ n₂ tab₃ (spine (until_form (K - 6) b M (get_or (forms (take n₂ tab₂)) i₂ tru) (get_or (forms (take n₂ tab₂)) i₁ tru))) (until_form (K - 6) b M (get_or (forms (take n₂ tab₂)) i₂ tru) (get_or (forms (take n₂ tab₂)) i₁ tru)) a₃
+      pub at-lone : {tab₂ : List ℕ} {a : Option Added} {s₂ : Added} → Answer tab₁ s₁.count tab₂ (unit_form c ∷ []) (unit_form c) a → a ≡ Some s₂ → length tab₂ ≡ length tab₁ → {tab₃ : List ℕ} {a₃ : Option Added}
+          → Answer tab₂ s₂.count tab₃ (spine (until_form (K - 6) b M (get_or (forms (take s₂.count tab₂)) s₂.index tru) (get_or (forms (take s₂.count tab₂)) s₁.index tru))) (until_form (K - 6) b M (get_or (forms (take s₂.count tab₂)) s₂.index tru) (get_or (forms (take s₂.count tab₂)) s₁.index tru)) a₃
           → Adds ns i b tab n tab₃ a₃
       at-lone w e k₂ v p h = let x = at-node ns i small p h in
           node-until ns i b tab n p x r (right-done x) k₁ (K - 6) (unit_form c) (lone_is ns i b tab n p x r (right-done x) k₁ g l c c-is) (was-added (unit-closure c w) e) k₂ v
 
     -- operators of two operands
-    module _ (g : 10 ≤ K) (s : Bool) (s-is : s ≡ flip (eqb K 10) b) {tab₂ : List ℕ} {a₂ : Added} (w₂ : Adds ns (left_n (get_or ns i 0)) s tab₁ n₁ tab₂ a₂) where
-      left-answer : {p : Raw} (x : Node ns i p) → Answer tab₁ n₁ tab₂ (closure_of (signed (flip (eqb K 10) b) x.left)) (signed (flip (eqb K 10) b) x.left) a₂
-      left-answer x = subst (λ s. Answer tab₁ n₁ tab₂ (closure_of (signed s x.left)) (signed s x.left) a₂) s-is (w₂ x.left (x.first g))
+    module _ (g : 10 ≤ K) (s : Bool) (s-is : s ≡ flip (eqb K 10) b) {tab₂ : List ℕ} {a₂ : Option Added} (w₂ : Adds ns (left_n (get_or ns i 0)) s tab₁ s₁.count tab₂ a₂) where
+      left-answer : {p : Raw} (x : Node ns i p) → Answer tab₁ s₁.count tab₂ (closure_of (signed (flip (eqb K 10) b) x.left)) (signed (flip (eqb K 10) b) x.left) a₂
+      left-answer x = subst (λ s. Answer tab₁ s₁.count tab₂ (closure_of (signed s x.left)) (signed s x.left) a₂) s-is (w₂ x.left (x.first g))
 
-      pub at-left-full : {tab' : List ℕ} → a₂ ≡ Full → Adds ns i b tab n tab' Full
+      pub at-left-full : {tab' : List ℕ} → a₂ ≡ None → Adds ns i b tab n tab' None
       at-left-full e p h = let x = at-node ns i small p h in node-left-full ns i b tab n p x r (right-done x) k₁ g (left-answer x) e
 
-      module _ {i₂ n₂ : ℕ} (e₂ : a₂ ≡ At i₂ n₂) (k₂ : length tab₂ ≡ length tab₁) where
-        pub at_join : {tab₃ : List ℕ} {a : Added} → K < 13 → (c : Bool) → c ≡ flip (eqb K 12) b
-            → Answer tab₂ n₂ tab₃ (join_form c (get_or (forms (take n₂ tab₂)) i₂ tru) (get_or (forms (take n₂ tab₂)) i₁ tru) ∷ []) (join_form c (get_or (forms (take n₂ tab₂)) i₂ tru) (get_or (forms (take n₂ tab₂)) i₁ tru)) a
+      module _ {s₂ : Added} (e₂ : a₂ ≡ Some s₂) (k₂ : length tab₂ ≡ length tab₁) where
+        pub at_join : {tab₃ : List ℕ} {a : Option Added} → K < 13 → (c : Bool) → c ≡ flip (eqb K 12) b
+            → Answer tab₂ s₂.count tab₃ (join_form c (get_or (forms (take s₂.count tab₂)) s₂.index tru) (get_or (forms (take s₂.count tab₂)) s₁.index tru) ∷ []) (join_form c (get_or (forms (take s₂.count tab₂)) s₂.index tru) (get_or (forms (take s₂.count tab₂)) s₁.index tru)) a
             → Adds ns i b tab n tab₃ a
         at_join l c e v p h = let x = at-node ns i small p h in node-join ns i b tab n p x r (right-done x) k₁ g l c e (was-added (left-answer x) e₂) k₂ v
 
-        pub at-until : {tab₃ : List ℕ} {a : Added} → 13 ≤ K
-            → Answer tab₂ n₂ tab₃ (spine (until_form (K - 13) b M (get_or (forms (take n₂ tab₂)) i₂ tru) (get_or (forms (take n₂ tab₂)) i₁ tru))) (until_form (K - 13) b M (get_or (forms (take n₂ tab₂)) i₂ tru) (get_or (forms (take n₂ tab₂)) i₁ tru)) a
+        pub at-until : {tab₃ : List ℕ} {a : Option Added} → 13 ≤ K
+            → Answer tab₂ s₂.count tab₃ (spine (until_form (K - 13) b M (get_or (forms (take s₂.count tab₂)) s₂.index tru) (get_or (forms (take s₂.count tab₂)) s₁.index tru))) (until_form (K - 13) b M (get_or (forms (take s₂.count tab₂)) s₂.index tru) (get_or (forms (take s₂.count tab₂)) s₁.index tru)) a
             → Adds ns i b tab n tab₃ a
         at-until l v p h = let x = at-node ns i small p h in
             node-until ns i b tab n p x r (right-done x) k₁ (K - 13) (signed (flip (eqb K 10) b) x.left) (pair_is ns i b tab n p x r (right-done x) k₁ l) (was-added (left-answer x) e₂) k₂ v
 
 -- what a call asks of the table that the one before left
-pub read-then : (s : Bool) {ns : List ℕ} {j : ℕ} {tab : List ℕ} {n : ℕ} {tab₁ : List ℕ} {a : Added} {i m : ℕ} → Reads ns j → Ready tab n → Adds ns j s tab n tab₁ a → a ≡ At i m → length tab₁ ≡ length tab → Then tab₁ n i m
-read-then s x r w e k = step_then r (w x.formula x.at) e k
+pub read-then : (s : Bool) {ns : List ℕ} {j : ℕ} {tab : List ℕ} {n : ℕ} {tab₁ : List ℕ} {a : Option Added} {x : Added} → Reads ns j → Ready tab n → Adds ns j s tab n tab₁ a → a ≡ Some x → length tab₁ ≡ length tab → Then tab₁ n x.index x.count
+read-then s q r w e k = step_then r (w q.formula q.at) e k

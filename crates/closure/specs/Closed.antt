@@ -1,5 +1,5 @@
 -- The table of the closure of some formulas: what closing asks, and what it gives. Assumes nothing.
-use Rattle.std.specs.Prelude.{◌≡◌, List, map, ℕ, ◌≤◌, ◌<◌, length, get_or, take, drop}
+use Rattle.std.specs.Prelude.{◌≡◌, List, map, ℕ, ◌≤◌, ◌<◌, Option, Some, None, length, get_or, take, drop}
 use Rattle.ctl.specs.Lists.{◌∈◌}
 use Rattle.ctl.specs.Formula.{Form, tru}
 use Rattle.ctl.specs.Raw.{Raw}
@@ -8,8 +8,6 @@ use Rattle.ctl.specs.Closure.{closure}
 use Rattle.members.specs.Members.{forms}
 use Rattle.members.specs.Grown.{Tabled}
 use Rattle.closure.specs.Given.{Fits, Given}
-use Rattle.closure.specs.declared.Closed.{Closed}
-use Rattle.closure.specs.declared.Closed.TheVariants.{Within, Beyond}
 
 -- what closing asks
 pub record Closes (ns roots tab places : List ℕ) : Type 0 where
@@ -27,10 +25,10 @@ pub record Placed (fs : List Form) (tab places : List ℕ) (m : ℕ) : Type 0 wh
   pub at : (j : ℕ) → j < length fs → get_or (forms (take m tab)) (get_or places j 0) tru ≡ get_or fs j tru
 
 -- The closure stands in the table and has as many members as it says, and what stands behind them and behind the places is as it was; or the closure has more members than there is room for.
-pub data ClosedIs (fs : List Form) (tab tab' places places' : List ℕ) : Closed → Type 0 where
-  within : {m : ℕ} → Tabled (closure fs) tab' m → Placed fs tab' places' m → length tab' ≡ length tab → drop m tab' ≡ drop m tab → drop (length fs) places' ≡ drop (length fs) places → ClosedIs fs tab tab' places places' (Within m)
-  beyond : length tab < length (closure fs) → length tab' ≡ length tab → length places' ≡ length places → ClosedIs fs tab tab' places places' Beyond
+pub data ClosedIs (fs : List Form) (tab tab' places places' : List ℕ) : Option ℕ → Type 0 where
+  within : {m : ℕ} → Tabled (closure fs) tab' m → Placed fs tab' places' m → length tab' ≡ length tab → drop m tab' ≡ drop m tab → drop (length fs) places' ≡ drop (length fs) places → ClosedIs fs tab tab' places places' (Some m)
+  beyond : length tab < length (closure fs) → length tab' ≡ length tab → length places' ≡ length places → ClosedIs fs tab tab' places places' None
 
 -- what closing gives for whichever formulas stand at the roots
-abbrev pub ClosedAs : List ℕ → List ℕ → List ℕ → List ℕ → List ℕ → List ℕ → Closed → Type 0
+abbrev pub ClosedAs : List ℕ → List ℕ → List ℕ → List ℕ → List ℕ → List ℕ → Option ℕ → Type 0
 ClosedAs ns roots tab tab' places places' r = (ps : List Raw) → Given ns roots ps → ClosedIs (map positive ps) tab tab' places places' r

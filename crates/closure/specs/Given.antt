@@ -1,5 +1,5 @@
 -- Formulas as read, in the parser's table of nodes, that a closure is made of. Assumes nothing.
-use Rattle.std.specs.Prelude.{◌≡◌, Bool, List, ℕ, ◌≤◌, ◌<◌, length, get_or}
+use Rattle.std.specs.Prelude.{◌≡◌, Bool, List, ℕ, ◌≤◌, ◌<◌, Option, length, get_or}
 use Rattle.ctl.specs.Positive.{signed}
 use Rattle.ctl.specs.Alphabet.{UsesRaw}
 use Rattle.ctl.specs.Closure.{closure_of}
@@ -20,7 +20,7 @@ pub record Reads (ns : List ℕ) (i : ℕ) : Type 0 where
   pub fits : Fits formula
 
 -- whichever formula stands at place i: the closure of its positive form (true), or of its negation's (false), was added
-abbrev pub Adds : List ℕ → ℕ → Bool → List ℕ → ℕ → List ℕ → Added → Type 0
+abbrev pub Adds : List ℕ → ℕ → Bool → List ℕ → ℕ → List ℕ → Option Added → Type 0
 Adds ns i b tab n tab' a = (p : Raw) → At ns p i → Answer tab n tab' (closure_of (signed b p)) (signed b p) a
 
 -- the formulas ps stand at the places `roots`

@@ -17,7 +17,7 @@ use Rattle.wordset.specs.Word.{bit}
 use Rattle.wordset.specs.Words.{member}
 use Rattle.truth.specs.Blocks.{has}
 use Rattle.truth.proofs.BlockLaws.{block_at, block-has, block_in}
-use Rattle.truth.proofs.Redoing.{Redoing, redo-on, redo-start}
+use Rattle.truth.proofs.Redoing.{Redoing, redo-on}
 use Rattle.conditions.specs.Entries.{in_some}
 use Rattle.conditions.specs.Putting.{Put}
 
@@ -49,9 +49,6 @@ entry-room w c r h = let b = block_in w c 64 h in omega arith
 -- ---- a loop that writes one entry, word after word
 
 module _ {A : ℕ → ℕ → Type 0} {w c : ℕ} {cw₀ cw : List ℕ} {k : ℕ} (s : Redoing A w c cw₀ cw k) where
-  pub entry_at : w * 64 + 16 ≤ length cw₀ → c < 64 → k < w → c * w + k < length cw
-  entry_at r h l = let b = entry-room w c r h in let e = s.long in omega arith
-
   -- a word of another entry, and the next of this one, are as they were
   apart : (e j : ℕ) → j < w → (e ≡ c → k ≤ j) → get_or cw (e * w + j) 0 ≡ get_or cw₀ (e * w + j) 0
   apart e j l f =
@@ -78,25 +75,21 @@ pub record Gathered (P : ℕ → Bool) (w c : ℕ) (cw₀ cw : List ℕ) (any k 
   pub words : Redoing (Answers P) w c cw₀ cw k
   pub none : (b : ℕ) → b < 64 → bit any b ≡ false → (j : ℕ) → j < k → P (j * 64 + b) ≡ false
 
-module _ {P : ℕ → Bool} {w c : ℕ} {cw₀ : List ℕ} where
-  pub gather-start : Gathered P w c cw₀ cw₀ 0 0
-  gather-start = record { words = redo-start; none = λ b l e j h. absurd (omega arith) }
+module _ {P : ℕ → Bool} {w c : ℕ} {cw₀ cw : List ℕ} {any k : ℕ} (s : Gathered P w c cw₀ cw any k) where
+  pub gather-on : (x : ℕ) → k < w → w * 64 + 16 ≤ length cw₀ → c < 64 → Answers P k x → Gathered P w c cw₀ (set cw (c * w + k) x) (bit_or any x) (k + 1)
+  gather-on x h r g a = record {
+    words = redo-on s.words (entry-room w c r g) h a;
+    none = λ b l e j n.
+        (let q = neither (bit any b) (bit x b) (sym (bit-or any x b) ∙ e) in
+        ⊎_elim (λ z. ap (λ (i : ℕ). P (i * 64 + b)) z ∙ a.each b l ∙ q.1) (λ z. s.none b l q.0 j z) (top j k (omega arith)));
+  }
+    where
+      neither : (y z : Bool) → (y || z) ≡ false → (y ≡ false) × (z ≡ false)
+      neither true z e = absurd (true≢false e)
+      neither false z e = (refl, e)
 
-  module _ {cw : List ℕ} {any k : ℕ} (s : Gathered P w c cw₀ cw any k) where
-    pub gather-on : (x : ℕ) → k < w → w * 64 + 16 ≤ length cw₀ → c < 64 → Answers P k x → Gathered P w c cw₀ (set cw (c * w + k) x) (bit_or any x) (k + 1)
-    gather-on x h r g a = record {
-      words = redo-on s.words (entry-room w c r g) h a;
-      none = λ b l e j n.
-          (let q = neither (bit any b) (bit x b) (sym (bit-or any x b) ∙ e) in
-          ⊎_elim (λ z. ap (λ (i : ℕ). P (i * 64 + b)) z ∙ a.each b l ∙ q.1) (λ z. s.none b l q.0 j z) (top j k (omega arith)));
-    }
-      where
-        neither : (y z : Bool) → (y || z) ≡ false → (y ≡ false) × (z ≡ false)
-        neither true z e = absurd (true≢false e)
-        neither false z e = (refl, e)
-
-    pub gather_none : w ≤ k → c < 64 → not (eqb any 0) ≡ false → (t : ℕ) → t < w * 64 → has w cw c t ≡ false
-    gather_none h g e t l =
-        let z : any ≡ 0 = eqb-true any 0 (not-false _ e) in
-        let q : t / 64 * 64 + t % 64 ≡ t = omega arith in
-        (put-end s.words h g).is t l ∙ ap P (sym q) ∙ s.none (t % 64) (omega arith) (ap (λ (n : ℕ). bit n (t % 64)) z ∙ bit-none (t % 64)) (t / 64) (omega arith)
+  pub gather_none : w ≤ k → c < 64 → not (eqb any 0) ≡ false → (t : ℕ) → t < w * 64 → has w cw c t ≡ false
+  gather_none h g e t l =
+      let z : any ≡ 0 = eqb-true any 0 (not-false _ e) in
+      let q : t / 64 * 64 + t % 64 ≡ t = omega arith in
+      (put-end s.words h g).is t l ∙ ap P (sym q) ∙ s.none (t % 64) (omega arith) (ap (λ (n : ℕ). bit n (t % 64)) z ∙ bit-none (t % 64)) (t / 64) (omega arith)

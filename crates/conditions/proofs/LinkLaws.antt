@@ -25,11 +25,12 @@ use Rattle.truth.specs.Truths.{true_at}
 use Rattle.truth.proofs.BlockLaws.{block_in}
 use Rattle.truth.proofs.MemberLaws.{all-forms}
 use Rattle.conditions.specs.Entries.{in_some, linked_by, partner, refusing, side}
-use Rattle.conditions.specs.Conditions.{Below, Conditions, Lk, OfPlace, Own, Placed, clash, nothing}
+use Rattle.std.specs.Prelude.{Option, None}
+use Rattle.conditions.specs.Conditions.{Below, Conditions, Lk, OfPlace, Own, Placed, clash}
 use Rattle.conditions.specs.Putting.{Sided, Summed, Turned}
 use Rattle.conditions.specs.declared.Condition.{Condition}
 use Rattle.conditions.proofs.EntryLaws.{entry_kept, some-kept}
-use Rattle.conditions.proofs.RuleLaws.{au-rule, nothing-clash, own-ax, own-ex, own-other}
+use Rattle.conditions.proofs.RuleLaws.{au-rule, none-clash, own-ax, own-ex, own-other}
 
 -- ---- a word shifted up by half
 
@@ -64,13 +65,13 @@ single-not : (a : ℕ) → single a ≡ false → single a ≡ true → ⊥
 single-not a f e = true≢false (sym e ∙ f)
 
 module _ {ms ln : List ℕ} (tb : Table ms) (le : Leans ms ln) (pl : Placed ms ln) (m t u : ℕ) (h : m < 8) (K : ℕ → Bool)
-    (low : (e : ℕ) → K e ≡ true → e < length ln * 2) (each : (e : ℕ) → e < length ln * 2 → (d : Condition) × OfPlace ms ln e d × (K e ≡ clash ms ln d m t u)) where
+    (low : (e : ℕ) → K e ≡ true → e < length ln * 2) (each : (e : ℕ) → e < length ln * 2 → (d : Option Condition) × OfPlace ms ln e d × (K e ≡ clash ms ln d m t u)) where
   abbrev rule : ℕ → Bool
   rule i = link_rule (lean_forms ms ln) m t u (form ms i)
 
   module _ (off : (e : ℕ) → e < length ln * 2 → K e ≡ false) (i : ℕ) (l : i < length ms) where
     -- by a condition of its own that does not clash
-    by : (d : Condition) → Own ms i d → clash ms ln d m t u ≡ false → (tag_at ms i ≡ 9 → ⊥) → rule i ≡ true
+    by : (d : Option Condition) → Own ms i d → clash ms ln d m t u ≡ false → (tag_at ms i ≡ 9 → ⊥) → rule i ≡ true
     by d o c n = o.is ln m t u h n ∙ ap not c
 
     -- an EX or AX over one mode has a lean place
@@ -82,19 +83,19 @@ module _ {ms ln : List ℕ} (tb : Table ms) (le : Leans ms ln) (pl : Placed ms l
         let q : p.0 * 2 / 2 ≡ p.0 = omega arith in
         by z.0 (at (ap (λ (k : ℕ). get_or ln k 0) q ∙ p.2) (z.1.even (omega arith))) (sym z.2 ∙ off (p.0 * 2) lt) (λ n. omega (arith, n, seven))
       where
-        at : {d : Condition} {j : ℕ} → j ≡ i → Own ms j d → Own ms i d
+        at : {d : Option Condition} {j : ℕ} → j ≡ i → Own ms j d → Own ms i d
         at e o = rw (sym e) o
 
     ex-met : tag_at ms i ≡ 6 → rule i ≡ true
     ex-met e =
         ⊎_elim (placed (omega arith) (omega arith))
-        (λ f. by nothing (own-ex tb i l 6 (arg_at ms i) 16 (sym e) refl (inr (refl, single-not _ f)) refl (omega arith) refl) (nothing-clash ms ln m t u h) (λ n. omega (arith, n, e)))
+        (λ f. by None (own-ex tb i l 6 (arg_at ms i) 16 (sym e) refl (inr (refl, single-not _ f)) refl (omega arith)) (none-clash ms ln m t u) (λ n. omega (arith, n, e)))
         (decide (single (arg_at ms i)))
 
     ax-met : tag_at ms i ≡ 7 → rule i ≡ true
     ax-met e =
         ⊎_elim (placed (omega arith) (omega arith))
-        (λ f. by nothing (own-ax tb i l 7 (arg_at ms i) 16 (sym e) refl (inr (refl, single-not _ f)) refl refl refl) (nothing-clash ms ln m t u h) (λ n. omega (arith, n, e)))
+        (λ f. by None (own-ax tb i l 7 (arg_at ms i) 16 (sym e) refl (inr (refl, single-not _ f)) refl refl) (none-clash ms ln m t u) (λ n. omega (arith, n, e)))
         (decide (single (arg_at ms i)))
 
     -- an AU both ways has AX over the field below it
@@ -107,7 +108,7 @@ module _ {ms ln : List ℕ} (tb : Table ms) (le : Leans ms ln) (pl : Placed ms l
         let g = at (ap (λ (k : ℕ). get_or ln k 0) q) (z.1.odd (omega arith)) in
         ap rule (sym p.4) ∙ g.is ln m t u h p.2 p.3 (ap (tag_at ms) p.4 ∙ e) ∙ ap not (sym z.2 ∙ off (p.0 * 2 + 1) lt)
       where
-        at : {d : Condition} {j k : ℕ} → j ≡ k → Below ms j d → Below ms k d
+        at : {d : Option Condition} {j k : ℕ} → j ≡ k → Below ms j d → Below ms k d
         at e o = rw (sym e) o
 
     au-off : tag_at ms i ≡ 9 → (has_mode (arg_at ms i) m && has_mode (arg_at ms i) (8 + m)) ≡ false → rule i ≡ true
@@ -121,15 +122,15 @@ module _ {ms ln : List ℕ} (tb : Table ms) (le : Leans ms ln) (pl : Placed ms l
     met =
         ⊎_elim ex-met
         (λ a. ⊎_elim ax-met
-        (λ b. ⊎_elim au-met (λ n. by nothing (own-other tb i l (tag_at ms i) refl a b refl) (nothing-clash ms ln m t u h) n) (same_or (tag_at ms i) 9)) (same_or (tag_at ms i) 7)) (same_or (tag_at ms i) 6)
+        (λ b. ⊎_elim au-met (λ n. by None (own-other tb i l (tag_at ms i) refl a b) (none-clash ms ln m t u) n) (same_or (tag_at ms i) 9)) (same_or (tag_at ms i) 7)) (same_or (tag_at ms i) 6)
 
   module _ (on : (i : ℕ) → i < length ms → rule i ≡ true) (e : ℕ) (l : e < length ln * 2) where
-    own-clear : {d : Condition} → Own ms (get_or ln (e / 2) 0) d → clash ms ln d m t u ≡ true → ⊥
+    own-clear : {d : Option Condition} → Own ms (get_or ln (e / 2) 0) d → clash ms ln d m t u ≡ true → ⊥
     own-clear o c =
-        ⊎_elim (λ n. true≢false (sym c ∙ ap (λ x. clash ms ln x m t u) (o.none n) ∙ nothing-clash ms ln m t u h))
+        ⊎_elim (λ n. true≢false (sym c ∙ ap (λ x. clash ms ln x m t u) (o.none n) ∙ none-clash ms ln m t u))
         (λ n. true≢false (sym (on _ (le.inside (e / 2) (omega arith))) ∙ o.is ln m t u h n ∙ ap not c)) (same_or (tag_at ms (get_or ln (e / 2) 0)) 9)
 
-    below-clear : {d : Condition} → Below ms (get_or ln (e / 2) 0) d → clash ms ln d m t u ≡ true → ⊥
+    below-clear : {d : Option Condition} → Below ms (get_or ln (e / 2) 0) d → clash ms ln d m t u ≡ true → ⊥
     below-clear b c = let q = b.only ln m t u h c in true≢false (sym (on _ q.0) ∙ q.1)
 
     clear : K e ≡ false

@@ -22,8 +22,8 @@ use Rattle.members.proofs.ModeLaws.{power-same}
 use Rattle.truth.specs.Tables.{Table, arg_at, form, lean_forms, left_at, right_at, tag_at}
 use Rattle.truth.specs.Truths.{Tr, true_at}
 use Rattle.truth.proofs.MemberLaws.{form-tag, tag_of}
-use Rattle.conditions.specs.Conditions.{Below, Inside, Own, clash, nothing, reverse, selects}
-use Rattle.conditions.specs.declared.Condition.{Condition}
+use Rattle.std.specs.Prelude.{Some, None}
+use Rattle.conditions.specs.Conditions.{Below, Own, clash, reverse, selects}
 use Rattle.conditions.specs.declared.Rule.TheVariants.{Forward, Backward, BothWays}
 
 -- ---- the rules by tags
@@ -111,28 +111,25 @@ both true true false true true = refl
 both true true false true false = refl
 both true true false false qu = refl
 
--- no condition stands against no link
-pub nothing-clash : (ms ln : List ℕ) (m t u : ℕ) → m < 8 → clash ms ln nothing m t u ≡ false
+-- where there is no condition, none stands against a link
+pub none-clash : (ms ln : List ℕ) (m t u : ℕ) → clash ms ln None m t u ≡ false
 unfolding clash
-nothing-clash ms ln m t u l = ap (λ b. b && (selects Forward (true_at ms ln 0 t) (true_at ms ln 0 t) && selects Backward (true_at ms ln 0 u) (true_at ms ln 0 u))) (ne_eqb 8 m (λ e. omega (arith, l)))
-
-nothing-inside : (ms : List ℕ) {d : Condition} → d ≡ nothing → Inside ms d
-nothing-inside ms e = rw e (omega arith, λ h. absurd (omega arith))
+none-clash ms ln m t u = refl
 
 module _ {ms : List ℕ} (t : Table ms) (j : ℕ) (h : j < length ms) where
   -- ---- its own
 
   -- a member that asks nothing
-  pub own-nothing : {d : Condition} → d ≡ nothing → ((ln : List ℕ) (m s u : ℕ) → m < 8 → (tag_at ms j ≡ 9 → ⊥) → link_rule (lean_forms ms ln) m s u (form ms j) ≡ true) → Own ms j d
-  own-nothing e f = record {
-    inside = nothing-inside ms e;
-    is = λ ln m s u l n. f ln m s u l n ∙ sym (ap (λ x. not (clash ms ln x m s u)) e ∙ ap not (nothing-clash ms ln m s u l));
-    none = λ n. e;
+  pub own-nothing : ((ln : List ℕ) (m s u : ℕ) → m < 8 → (tag_at ms j ≡ 9 → ⊥) → link_rule (lean_forms ms ln) m s u (form ms j) ≡ true) → Own ms j None
+  own-nothing f = record {
+    inside = tt;
+    is = λ ln m s u l n. f ln m s u l n ∙ sym (ap not (none-clash ms ln m s u));
+    none = λ n. refl;
   }
 
-  pub own-other : {d : Condition} (g : ℕ) → g ≡ tag_at ms j → (g ≡ 6 → ⊥) → (g ≡ 7 → ⊥) → d ≡ nothing → Own ms j d
-  own-other g eg a b e =
-      own-nothing e (λ ln m s u l n. (let q = sym (tag_of t j h) in
+  pub own-other : (g : ℕ) → g ≡ tag_at ms j → (g ≡ 6 → ⊥) → (g ≡ 7 → ⊥) → Own ms j None
+  own-other g eg a b =
+      own-nothing (λ ln m s u l n. (let q = sym (tag_of t j h) in
       rule-none (lean_forms ms ln) m s u (form ms j) (λ x. a (eg ∙ q ∙ x)) (λ x. b (eg ∙ q ∙ x)) (λ x. n (q ∙ x))))
 
   module _ (g a r : ℕ) (eg : g ≡ tag_at ms j) (ea : a ≡ arg_at ms j) (em : ModeOf a r) where
@@ -140,19 +137,25 @@ module _ {ms : List ℕ} (t : Table ms) (j : ℕ) (h : j < length ms) where
     test m l = ap (λ (x : ℕ). eqb x (2 ^ m)) (sym ea) ∙ mode-test a r m em l
 
     -- EX over a backward mode or several, AX over several
-    pub own-ex : {d : Condition} → g ≡ 6 → 8 ≤ r → d ≡ nothing → Own ms j d
-    own-ex e k q = own-nothing q (λ ln m s u l n. ex-rule ln t j h m s u (sym eg ∙ e) ∙ rw (test m (omega arith), ne_eqb r m (λ x. omega (arith, k, l, x))))
+    pub own-ex : g ≡ 6 → 8 ≤ r → Own ms j None
+    own-ex e k = own-nothing (λ ln m s u l n. ex-rule ln t j h m s u (sym eg ∙ e) ∙ rw (test m (omega arith), ne_eqb r m (λ x. omega (arith, k, l, x))))
 
-    pub own-ax : {d : Condition} → g ≡ 7 → r ≡ 16 → d ≡ nothing → Own ms j d
-    own-ax e k q =
-        own-nothing q (λ ln m s u l n. ax-rule ln t j h m s u (sym eg ∙ e)
+    pub own-ax : g ≡ 7 → r ≡ 16 → Own ms j None
+    own-ax e k =
+        own-nothing (λ ln m s u l n. ax-rule ln t j h m s u (sym eg ∙ e)
         ∙ rw (test m (omega arith), ne_eqb r m (λ x. omega (arith, k, l, x)), test (8 + m) (omega arith), ne_eqb r (8 + m) (λ x. omega (arith, k, l, x))))
 
-    module _ (p : ℕ) (ep : p ≡ left_at ms j) (six : 6 ≤ g) (seven : g ≤ 7) where
-      within : (f : ℕ) → f < 8 → (f ≤ 8) × (f < 8 → (j < length ms) × (p < length ms))
-      within f l = (omega arith, λ k. (h, (let o = (t.operands j h (omega arith)).0 in omega arith)))
+    -- a member that makes no condition
+    pub own-none : (g ≡ 6 → 8 ≤ r) → (g ≡ 7 → 16 ≤ r) → Own ms j None
+    own-none six seven =
+        ⊎_elim (λ e. own-ex e (six e))
+        (λ f. ⊎_elim (λ e. own-ax e (let l = seven e in let m = mode-le a r em in omega arith)) (λ h. own-other g eg f h) (same_or g 7)) (same_or g 6)
 
-      pub own-forth : r < 8 → Own ms j (record { field = r; rule = Forward; whole = j; part = p })
+    module _ (p : ℕ) (ep : p ≡ left_at ms j) (six : 6 ≤ g) (seven : g ≤ 7) where
+      within : (f : ℕ) → f < 8 → (f < 8) × (j < length ms) × (p < length ms)
+      within f l = (l, h, (let o = (t.operands j h (omega arith)).0 in omega arith))
+
+      pub own-forth : r < 8 → Own ms j (Some (record { field = r; rule = Forward; whole = j; part = p }))
       unfolding clash selects reverse
       own-forth k = record {
         inside = within r k;
@@ -165,7 +168,7 @@ module _ {ms : List ℕ} (t : Table ms) (j : ℕ) (h : j < length ms) where
           six-seven : (g : ℕ) → 6 ≤ g → g ≤ 7 → (g ≡ 6) ⊎ (g ≡ 7)
           six-seven g a b = ⊎_elim inl (λ f. inr (omega arith)) (same_or g 6)
 
-          close : (ln : List ℕ) (m s u : ℕ) → imp (eqb r m) (imp (true_at ms ln j s) (true_at ms ln (left_at ms j) u)) ≡ not (clash ms ln (record { field = r; rule = Forward; whole = j; part = p }) m s u)
+          close : (ln : List ℕ) (m s u : ℕ) → imp (eqb r m) (imp (true_at ms ln j s) (true_at ms ln (left_at ms j) u)) ≡ not (clash ms ln (Some (record { field = r; rule = Forward; whole = j; part = p })) m s u)
           close ln m s u = forth (eqb r m) (true_at ms ln j s) (true_at ms ln (left_at ms j) u) ∙ ap (λ q. not (eqb r m && (true_at ms ln j s && not (true_at ms ln q u)))) (sym ep)
 
           one : (ln : List ℕ) (m s u : ℕ) → m < 8
@@ -173,7 +176,7 @@ module _ {ms : List ℕ} (t : Table ms) (j : ℕ) (h : j < length ms) where
               ≡ imp (eqb r m) (imp (true_at ms ln j s) (true_at ms ln (left_at ms j) u))
           one ln m s u l = rw (test m (omega arith), test (8 + m) (omega arith), ne_eqb r (8 + m) (λ x. omega (arith, k, x)), and-true)
 
-      pub own_back : {f : ℕ} → g ≡ 7 → 8 ≤ r → (r ≡ 16 → ⊥) → f ≡ r - 8 → Own ms j (record { field = f; rule = Backward; whole = j; part = p })
+      pub own_back : {f : ℕ} → g ≡ 7 → 8 ≤ r → (r ≡ 16 → ⊥) → f ≡ r - 8 → Own ms j (Some (record { field = f; rule = Backward; whole = j; part = p }))
       unfolding clash selects reverse
       own_back {f} e k n ef = record {
         inside = within f (let x = mode-le a r em in omega arith);
@@ -190,7 +193,7 @@ module _ {ms : List ℕ} (t : Table ms) (j : ℕ) (h : j < length ms) where
           one ln m s u l =
               rw (test m (omega arith), ne_eqb r m (λ x. omega (arith, k, l, x)), test (8 + m) (omega arith), shift m)
 
-          close : (ln : List ℕ) (m s u : ℕ) → imp (eqb f m) (imp (true_at ms ln j u) (true_at ms ln (left_at ms j) s)) ≡ not (clash ms ln (record { field = f; rule = Backward; whole = j; part = p }) m s u)
+          close : (ln : List ℕ) (m s u : ℕ) → imp (eqb f m) (imp (true_at ms ln j u) (true_at ms ln (left_at ms j) s)) ≡ not (clash ms ln (Some (record { field = f; rule = Backward; whole = j; part = p })) m s u)
           close ln m s u = back (eqb f m) (true_at ms ln j u) (true_at ms ln (left_at ms j) s) ∙ ap (λ q. not (eqb f m && (not (true_at ms ln q s) && true_at ms ln j u))) (sym ep)
 
   ways : (i b r m : ℕ) → b ≡ arg_at ms i → r ≡ m → (has_mode (arg_at ms i) m && has_mode (arg_at ms i) (8 + m)) ≡ (has_mode b r && has_mode b (r + 8))
@@ -198,43 +201,42 @@ module _ {ms : List ℕ} (t : Table ms) (j : ℕ) (h : j < length ms) where
 
   -- ---- that of its body
 
-  module _ {d : Condition} (e : d ≡ nothing) where
-    pub below-nothing : ((ln : List ℕ) (m s u : ℕ) → m < 8 → tag_at ms j ≡ 7 → arg_at ms j ≡ 2 ^ m → tag_at ms (left_at ms j) ≡ 9 → link_rule (lean_forms ms ln) m s u (form ms (left_at ms j)) ≡ true) → Below ms j d
-    below-nothing f = record {
-      inside = nothing-inside ms e;
-      only = λ ln m s u l c. absurd (true≢false (sym c ∙ ap (λ x. clash ms ln x m s u) e ∙ nothing-clash ms ln m s u l));
-      is = λ ln m s u l a b c. f ln m s u l a b c ∙ sym (ap (λ x. not (clash ms ln x m s u)) e ∙ ap not (nothing-clash ms ln m s u l));
-    }
+  pub below-nothing : ((ln : List ℕ) (m s u : ℕ) → m < 8 → tag_at ms j ≡ 7 → arg_at ms j ≡ 2 ^ m → tag_at ms (left_at ms j) ≡ 9 → link_rule (lean_forms ms ln) m s u (form ms (left_at ms j)) ≡ true) → Below ms j None
+  below-nothing f = record {
+    inside = tt;
+    only = λ ln m s u l c. absurd (true≢false (sym c ∙ none-clash ms ln m s u));
+    is = λ ln m s u l a b c. f ln m s u l a b c ∙ sym (ap not (none-clash ms ln m s u));
+  }
 
-    -- no AX over a field, or no AU below it
-    pub below-tag : (g : ℕ) → g ≡ tag_at ms j → (g ≡ 7 → ⊥) → Below ms j d
-    below-tag g eg f = below-nothing (λ ln m s u l a b c. absurd (f (eg ∙ a)))
+  -- no AX over a field, or no AU below it
+  pub below-tag : (g : ℕ) → g ≡ tag_at ms j → (g ≡ 7 → ⊥) → Below ms j None
+  below-tag g eg f = below-nothing (λ ln m s u l a b c. absurd (f (eg ∙ a)))
 
-    pub below-mode : (a r : ℕ) → a ≡ arg_at ms j → ModeOf a r → 8 ≤ r → Below ms j d
-    below-mode a r ea em k = below-nothing (λ ln m s u l g b c. absurd (true≢false (sym (eq-eqb a (2 ^ m) (ea ∙ b)) ∙ mode-test a r m em (omega arith) ∙ ne_eqb r m (λ x. omega (arith, k, l, x)))))
+  pub below-mode : (a r : ℕ) → a ≡ arg_at ms j → ModeOf a r → 8 ≤ r → Below ms j None
+  below-mode a r ea em k = below-nothing (λ ln m s u l g b c. absurd (true≢false (sym (eq-eqb a (2 ^ m) (ea ∙ b)) ∙ mode-test a r m em (omega arith) ∙ ne_eqb r m (λ x. omega (arith, k, l, x)))))
 
-    pub below_other : (i g : ℕ) → i ≡ left_at ms j → g ≡ tag_at ms i → (g ≡ 9 → ⊥) → Below ms j d
-    below_other i g ei eg f = below-nothing (λ ln m s u l a b c. absurd (f (eg ∙ ap (tag_at ms) ei ∙ c)))
+  pub below_other : (i g : ℕ) → i ≡ left_at ms j → g ≡ tag_at ms i → (g ≡ 9 → ⊥) → Below ms j None
+  below_other i g ei eg f = below-nothing (λ ln m s u l a b c. absurd (f (eg ∙ ap (tag_at ms) ei ∙ c)))
 
-    -- an AU not both ways along the field
-    pub below-way : (a r i b : ℕ) → a ≡ arg_at ms j → ModeOf a r → i ≡ left_at ms j → i < length ms → b ≡ arg_at ms i → ((has_mode b r && has_mode b (r + 8)) ≡ false) → Below ms j d
-    below-way a r i b ea em ei il eb f =
-        below-nothing (λ ln m s u l g k c. (let q : r ≡ m = eqb-true r m (sym (mode-test a r m em (omega arith)) ∙ eq-eqb a (2 ^ m) (ea ∙ k)) in
-        ap (λ (x : ℕ). link_rule (lean_forms ms ln) m s u (form ms x)) (sym ei)
-        ∙ au-rule ln t i il m s u (ap (tag_at ms) ei ∙ c)
-        ∙ ap (λ x. imp x (imp (true_at ms ln i s && true_at ms ln i u) (true_at ms ln (right_at ms i) s || true_at ms ln (right_at ms i) u))) (ways i b r m eb q ∙ f)))
+  -- an AU not both ways along the field
+  pub below-way : (a r i b : ℕ) → a ≡ arg_at ms j → ModeOf a r → i ≡ left_at ms j → i < length ms → b ≡ arg_at ms i → ((has_mode b r && has_mode b (r + 8)) ≡ false) → Below ms j None
+  below-way a r i b ea em ei il eb f =
+      below-nothing (λ ln m s u l g k c. (let q : r ≡ m = eqb-true r m (sym (mode-test a r m em (omega arith)) ∙ eq-eqb a (2 ^ m) (ea ∙ k)) in
+      ap (λ (x : ℕ). link_rule (lean_forms ms ln) m s u (form ms x)) (sym ei)
+      ∙ au-rule ln t i il m s u (ap (tag_at ms) ei ∙ c)
+      ∙ ap (λ x. imp x (imp (true_at ms ln i s && true_at ms ln i u) (true_at ms ln (right_at ms i) s || true_at ms ln (right_at ms i) u))) (ways i b r m eb q ∙ f)))
 
   pub below_both : (a r i b q : ℕ) → a ≡ arg_at ms j → ModeOf a r → r < 8 → i ≡ left_at ms j → i < length ms → tag_at ms i ≡ 9 → b ≡ arg_at ms i → q ≡ right_at ms i → (has_mode b r && has_mode b (r + 8)) ≡ true
-      → Below ms j (record { field = r; rule = BothWays; whole = i; part = q })
+      → Below ms j (Some (record { field = r; rule = BothWays; whole = i; part = q }))
   unfolding clash selects reverse
   below_both a r i b q ea em k ei il g eb eq f = record {
-    inside = (omega arith, λ x. (il, (let o = (t.operands i il (omega arith)).1 in omega arith)));
+    inside = (k, il, (let o = (t.operands i il (omega arith)).1 in omega arith));
     only = λ ln m s u l c. ((let z = il in omega (arith, ei)), (let n = eqb-true r m (and_both (eqb r m) _ c).0 in rule ln m s u l n ∙ ap not c));
     is = λ ln m s u l a' b' c. (let n : r ≡ m = eqb-true r m (sym (mode-test a r m em (omega arith)) ∙ eq-eqb a (2 ^ m) (ea ∙ b')) in rule ln m s u l n);
   }
     where
       rule : (ln : List ℕ) (m s u : ℕ) → m < 8 → r ≡ m
-          → link_rule (lean_forms ms ln) m s u (form ms (left_at ms j)) ≡ not (clash ms ln (record { field = r; rule = BothWays; whole = i; part = q }) m s u)
+          → link_rule (lean_forms ms ln) m s u (form ms (left_at ms j)) ≡ not (clash ms ln (Some (record { field = r; rule = BothWays; whole = i; part = q })) m s u)
       rule ln m s u l n =
           ap (λ (x : ℕ). link_rule (lean_forms ms ln) m s u (form ms x)) (sym ei)
           ∙ au-rule ln t i il m s u g

@@ -18,11 +18,13 @@ use Rattle.truth.specs.Blocks.{has}
 use Rattle.truth.specs.Truths.{Truths, true_at}
 use Rattle.truth.proofs.TruthLaws.{truth-bit}
 use Rattle.conditions.specs.Entries.{side}
+use Rattle.std.specs.Prelude.{Option, Some, None}
 use Rattle.conditions.specs.Conditions.{OfPlace, clash, reverse, selects}
 use Rattle.conditions.specs.Putting.{Put, Sided}
 use Rattle.conditions.specs.declared.Condition.{Condition}
 use Rattle.conditions.specs.declared.Rule.{Rule}
 use Rattle.conditions.proofs.EntryLaws.{entry-before}
+use Rattle.conditions.proofs.RuleLaws.{none-clash}
 
 -- no field has a condition yet
 pub side-start : {ms ln : List ℕ} {w : ℕ} {cw : List ℕ} → ((m : ℕ) → m < 8 → get_or cw (w * 64 + m) 0 ≡ 0) → Sided ms ln w cw 0
@@ -39,25 +41,25 @@ demands ms ln d t = selects d.rule (true_at ms ln d.whole t) (true_at ms ln d.pa
 abbrev refuses : List ℕ → List ℕ → Condition → ℕ → Bool
 refuses ms ln d t = selects (reverse d.rule) (true_at ms ln d.whole t) (true_at ms ln d.part t)
 
-clash-parts : (ms ln : List ℕ) (d : Condition) (m t u : ℕ) → clash ms ln d m t u ≡ (eqb d.field m && (demands ms ln d t && refuses ms ln d u))
+clash-parts : (ms ln : List ℕ) (d : Condition) (m t u : ℕ) → clash ms ln (Some d) m t u ≡ (eqb d.field m && (demands ms ln d t && refuses ms ln d u))
 unfolding clash
 clash-parts ms ln d m t u = refl
 
 -- what is known of condition e
 abbrev Each : List ℕ → List ℕ → ℕ → List ℕ → ℕ → Type 0
 Each ms ln w cw e =
-    (d : Condition) × OfPlace ms ln e d × ((m : ℕ) → m < 8 → (t u : ℕ) → t < w * 64 → u < w * 64 → (bit (side w cw m) e && (has w cw (e + 32) t && has w cw e u)) ≡ clash ms ln d m t u)
+    (d : Option Condition) × OfPlace ms ln e d × ((m : ℕ) → m < 8 → (t u : ℕ) → t < w * 64 → u < w * 64 → (bit (side w cw m) e && (has w cw (e + 32) t && has w cw e u)) ≡ clash ms ln d m t u)
 
-module _ {ms ln : List ℕ} {w c : ℕ} (h : c < 24) {d : Condition} (o : OfPlace ms ln c d) where
+module _ {ms ln : List ℕ} {w c : ℕ} (h : c < 24) {r : Option Condition} (o : OfPlace ms ln c r) where
   module _ {cw cw' : List ℕ} (k : Kept w c cw cw') where
     side-on : ((m e : ℕ) → m < 8 → e < c → bit (side w cw' m) e ≡ bit (side w cw m) e)
         → ((m e : ℕ) → m < 8 → bit (side w cw' m) e ≡ true → e < c + 1)
-        → ((m : ℕ) → m < 8 → (t u : ℕ) → t < w * 64 → u < w * 64 → (bit (side w cw' m) c && (has w cw' (c + 32) t && has w cw' c u)) ≡ clash ms ln d m t u)
+        → ((m : ℕ) → m < 8 → (t u : ℕ) → t < w * 64 → u < w * 64 → (bit (side w cw' m) c && (has w cw' (c + 32) t && has w cw' c u)) ≡ clash ms ln r m t u)
         → Sided ms ln w cw c → Sided ms ln w cw' (c + 1)
     side-on f g n s = record { low = g; each = λ e l. ⊎_elim (λ q. new e q) (λ q. old e q) (top e c (omega arith)) }
       where
         new : (e : ℕ) → e ≡ c → Each ms ln w cw' e
-        new e q = rw q (d, o, n)
+        new e q = rw q (r, o, n)
 
         old : (e : ℕ) → e < c → Each ms ln w cw' e
         old e q =
@@ -69,7 +71,7 @@ module _ {ms ln : List ℕ} {w c : ℕ} (h : c < 24) {d : Condition} (o : OfPlac
             )
 
     -- the sides are as they were, and nothing clashes
-    side-stays : ((m : ℕ) → m < 8 → side w cw' m ≡ side w cw m) → ((m : ℕ) → m < 8 → (t u : ℕ) → t < w * 64 → u < w * 64 → clash ms ln d m t u ≡ false)
+    side-stays : ((m : ℕ) → m < 8 → side w cw' m ≡ side w cw m) → ((m : ℕ) → m < 8 → (t u : ℕ) → t < w * 64 → u < w * 64 → clash ms ln r m t u ≡ false)
         → Sided ms ln w cw c → Sided ms ln w cw' (c + 1)
     side-stays f n s =
         side-on (λ m e l q. ap (λ (x : ℕ). bit x e) (f m l)) (λ m e l b. (let z = s.low m e l (ap (λ (x : ℕ). bit x e) (sym (f m l)) ∙ b) in omega arith))
@@ -78,20 +80,16 @@ module _ {ms ln : List ℕ} {w c : ℕ} (h : c < 24) {d : Condition} (o : OfPlac
         off : (m : ℕ) → m < 8 → bit (side w cw m) c ≡ false
         off m l = false_of (bit (side w cw m) c) (λ b. (let z = s.low m c l b in omega arith))
 
-  -- a condition of no field
-  pub side-none : {cw : List ℕ} → d.field ≡ 8 → Sided ms ln w cw c → Sided ms ln w cw (c + 1)
-  side-none e =
-      side-stays (λ e t l a f g. refl) (λ m l. refl)
-      (λ m l t u a b. clash-parts ms ln d m t u ∙ ap (λ x. x && (demands ms ln d t && refuses ms ln d u)) (ne_eqb d.field m (λ q. omega (arith, e, q, l))))
+  -- there is none
+  pub side-none : {cw : List ℕ} → r ≡ None → Sided ms ln w cw c → Sided ms ln w cw (c + 1)
+  side-none e = side-stays (λ e t l a f g. refl) (λ m l. refl) (λ m l t u a b. rw e (none-clash ms ln m t u))
 
-  module _ {tw : List ℕ} (tr : Truths ms ln w tw) (field : d.field ≡ 8 → ⊥) {r : Rule} (er : r ≡ reverse d.rule) {cw₀ cw₁ : List ℕ}
+module _ {ms ln : List ℕ} {w c : ℕ} (h : c < 24) {d : Condition} (o : OfPlace ms ln c (Some d)) where
+  module _ {tw : List ℕ} (tr : Truths ms ln w tw) {r : Rule} (er : r ≡ reverse d.rule) {cw₀ cw₁ : List ℕ}
       (p : Put (λ t. selects r (has w tw d.whole t) (has w tw d.part t)) w c cw₀ cw₁) where
-    low : d.field < 8
-    low = let x = o.inside.0 in omega (arith, field)
-
     -- what the blocks of the members say is their truth
     blocks : (r : Rule) (t : ℕ) → t < w * 64 → selects r (has w tw d.whole t) (has w tw d.part t) ≡ selects r (true_at ms ln d.whole t) (true_at ms ln d.part t)
-    blocks r t l = let q = o.inside.1 low in ap₂ (selects r) (truth-bit tr d.whole q.0 t l) (truth-bit tr d.part q.1 t l)
+    blocks r t l = ap₂ (selects r) (truth-bit tr d.whole o.inside.1 t l) (truth-bit tr d.part o.inside.2 t l)
 
     refused : (u : ℕ) → u < w * 64 → has w cw₁ c u ≡ refuses ms ln d u
     refused u l = p.is u l ∙ blocks r u l ∙ ap (λ x. selects x (true_at ms ln d.whole u) (true_at ms ln d.part u)) er
@@ -102,7 +100,7 @@ module _ {ms ln : List ℕ} {w c : ℕ} (h : c < 24) {d : Condition} (o : OfPlac
     -- no type refuses it
     pub side-refused : ((t : ℕ) → t < w * 64 → has w cw₁ c t ≡ false) → Sided ms ln w cw₀ c → Sided ms ln w cw₁ (c + 1)
     side-refused n =
-        side-stays kept (λ m l. p.sides m)
+        side-stays h o kept (λ m l. p.sides m)
         (λ m l t u a b. clash-parts ms ln d m t u
         ∙ ap (λ x. eqb d.field m && (demands ms ln d t && x)) (sym (refused u b) ∙ n u b)
         ∙ ap (λ x. eqb d.field m && x) (and-false (demands ms ln d t))
@@ -121,7 +119,7 @@ module _ {ms ln : List ℕ} {w c : ℕ} (h : c < 24) {d : Condition} (o : OfPlac
       -- no type demands it
       pub side-demanded : ((t : ℕ) → t < w * 64 → has w cw₂ (c + 32) t ≡ false) → Sided ms ln w cw₀ c → Sided ms ln w cw₂ (c + 1)
       side-demanded n =
-          side-stays kept₂ (λ m l. sides₂ m)
+          side-stays h o kept₂ (λ m l. sides₂ m)
           (λ m l t u a b. clash-parts ms ln d m t u
           ∙ ap (λ x. eqb d.field m && (x && refuses ms ln d u)) (sym (demanded t a) ∙ n t a)
           ∙ and-false (eqb d.field m))
@@ -129,7 +127,7 @@ module _ {ms ln : List ℕ} {w c : ℕ} (h : c < 24) {d : Condition} (o : OfPlac
       -- it joins the side of its field
       pub side-joins : w * 64 + 16 ≤ length cw₂ → Sided ms ln w cw₀ c
           → Sided ms ln w (set cw₂ (w * 64 + d.field) (bit_or (get_or cw₂ (w * 64 + d.field) 0) ((1 * 2 ^ c) % 2 ^ 64))) (c + 1)
-      side-joins room s = side-on kept₃ (λ m e l q. same m e (λ x. omega (arith, x, q)) l) grown joined s
+      side-joins room s = side-on h o kept₃ (λ m e l q. same m e (λ x. omega (arith, x, q)) l) grown joined s
         where
           x : ℕ
           x = bit_or (get_or cw₂ (w * 64 + d.field) 0) ((1 * 2 ^ c) % 2 ^ 64)
@@ -152,7 +150,7 @@ module _ {ms ln : List ℕ} {w c : ℕ} (h : c < 24) {d : Condition} (o : OfPlac
               ∙ ap₂ ◌||◌ (ap (λ (n : ℕ). bit n e) (sides₂ d.field)) (ap (λ (n : ℕ). bit n e) (shl_one c (omega arith)) ∙ bit-pow c e)
 
           at : side w cw₃ d.field ≡ x
-          at = get_or-set_same cw₂ (w * 64 + d.field) x 0 (let q = low in omega arith)
+          at = get_or-set_same cw₂ (w * 64 + d.field) x 0 (let q = o.inside.0 in omega arith)
 
           own : (m e : ℕ) → m ≡ d.field → bit (side w cw₃ m) e ≡ (bit (side w cw₀ m) e || eqb e c)
           own m e q = rw q (ap (λ (n : ℕ). bit n e) at ∙ bits e)
@@ -177,25 +175,7 @@ module _ {ms ln : List ℕ} {w c : ℕ} (h : c < 24) {d : Condition} (o : OfPlac
           below : (u : ℕ) → u < w * 64 → has w cw₂ c u ≡ has w cw₁ c u
           below u b = p₂.entries c u (λ q. omega (arith, q)) b
 
-          joined : (m : ℕ) → m < 8 → (t u : ℕ) → t < w * 64 → u < w * 64 → (bit (side w cw₃ m) c && (has w cw₃ (c + 32) t && has w cw₃ c u)) ≡ clash ms ln d m t u
+          joined : (m : ℕ) → m < 8 → (t u : ℕ) → t < w * 64 → u < w * 64 → (bit (side w cw₃ m) c && (has w cw₃ (c + 32) t && has w cw₃ c u)) ≡ clash ms ln (Some d) m t u
           joined m l t u a b =
               ap₂ ◌&&◌ (side-bit m l) (ap₂ ◌&&◌ (entries (c + 32) t (omega arith) a ∙ demanded t a) (entries c u (omega arith) b ∙ below u b ∙ refused u b))
               ∙ sym (clash-parts ms ln d m t u)
-
--- ---- the loop over the conditions
-
-pub record Going (ms ln : List ℕ) (w : ℕ) (cw₀ cw : List ℕ) (c : ℕ) : Type 0 where
-  pub long : length cw ≡ length cw₀
-  pub within : c ≤ length ln * 2
-  pub sided : Sided ms ln w cw c
-
-module _ {ms ln : List ℕ} {w : ℕ} {cw₀ : List ℕ} where
-  pub going_start : ((m : ℕ) → m < 8 → get_or cw₀ (w * 64 + m) 0 ≡ 0) → Going ms ln w cw₀ cw₀ 0
-  going_start f = record { long = refl; within = omega arith; sided = side-start f }
-
-  module _ {cw : List ℕ} {c : ℕ} (g : Going ms ln w cw₀ cw c) where
-    pub going_on : {cw' : List ℕ} → length cw' ≡ length cw → c < length ln * 2 → (Sided ms ln w cw c → Sided ms ln w cw' (c + 1)) → Going ms ln w cw₀ cw' (c + 1)
-    going_on e l f = record { long = e ∙ g.long; within = omega arith; sided = f g.sided }
-
-    pub going_end : length ln * 2 ≤ c → Sided ms ln w cw (length ln * 2)
-    going_end l = let e : length ln * 2 ≡ c = (let h = g.within in omega arith) in rw e g.sided

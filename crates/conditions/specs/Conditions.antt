@@ -1,5 +1,5 @@
 -- What closure members ask of links between types, as conditions; and when condition words say the same as the logic. Assumes nothing.
-use Rattle.std.specs.Prelude.{◌≡◌, Bool, true, false, not, ◌&&◌, List, ℕ, ◌+◌, ◌*◌, ◌/◌, ◌%◌, ◌^◌, ◌≤◌, ◌<◌, eqb, length, get_or}
+use Rattle.std.specs.Prelude.{◌≡◌, Option, Some, None, IfSome, Bool, true, false, not, ◌&&◌, List, ℕ, ◌+◌, ◌*◌, ◌/◌, ◌%◌, ◌^◌, ◌≤◌, ◌<◌, eqb, length, get_or}
 use Rattle.ctl.specs.Links.{link_by, link_rule}
 use Rattle.ctl.specs.Modes.{has_mode, single}
 use Rattle.members.specs.Members.{forms}
@@ -41,34 +41,31 @@ reverse Forward = Backward
 reverse Backward = Forward
 reverse BothWays = BothWays
 
--- no condition
-abbrev pub nothing : Condition
-nothing = record { field = 8; rule = Forward; whole = 0; part = 0 }
-
--- a condition stands against a link along field m from t to u: it is of that field, t demands it, and u refuses it
-unfoldable pub clash : List ℕ → List ℕ → Condition → ℕ → ℕ → ℕ → Bool
+-- a condition stands against a link along field m from t to u: it is of that field, t demands it, and u refuses it; where there is none, nothing does
+unfoldable pub clash : List ℕ → List ℕ → Option Condition → ℕ → ℕ → ℕ → Bool
 unfolding selects reverse
-clash ms ln d m t u =
+clash ms ln None m t u = false
+clash ms ln (Some d) m t u =
     eqb d.field m && (selects d.rule (true_at ms ln d.whole t) (true_at ms ln d.part t) && selects (reverse d.rule) (true_at ms ln d.whole u) (true_at ms ln d.part u))
 
--- the condition is made of members, where it is one
-abbrev pub Inside : List ℕ → Condition → Type 0
-Inside ms d = (d.field ≤ 8) × (d.field < 8 → (d.whole < length ms) × (d.part < length ms))
+-- the condition, where there is one, is of a field, and made of members
+abbrev pub Inside : List ℕ → Option Condition → Type 0
+Inside ms o = IfSome o (λ d. (d.field < 8) × (d.whole < length ms) × (d.part < length ms))
 
--- it is what member j asks, if that is no AU; otherwise nothing
-pub record Own (ms : List ℕ) (j : ℕ) (d : Condition) : Type 0 where
+-- it is what member j asks, if that is no AU; otherwise none
+pub record Own (ms : List ℕ) (j : ℕ) (d : Option Condition) : Type 0 where
   pub inside : Inside ms d
   pub is : (ln : List ℕ) (m t u : ℕ) → m < 8 → (tag_at ms j ≡ 9 → ⊥) → link_rule (lean_forms ms ln) m t u (form ms j) ≡ not (clash ms ln d m t u)
-  pub none : tag_at ms j ≡ 9 → d ≡ nothing
+  pub none : tag_at ms j ≡ 9 → d ≡ None
 
--- it is what the body of member j asks, if that is an AU, and j AX over the field; otherwise nothing
-pub record Below (ms : List ℕ) (j : ℕ) (d : Condition) : Type 0 where
+-- it is what the body of member j asks, if that is an AU, and j AX over the field; otherwise none
+pub record Below (ms : List ℕ) (j : ℕ) (d : Option Condition) : Type 0 where
   pub inside : Inside ms d
   pub only : (ln : List ℕ) (m t u : ℕ) → m < 8 → clash ms ln d m t u ≡ true → (left_at ms j < length ms) × (link_rule (lean_forms ms ln) m t u (form ms (left_at ms j)) ≡ false)
   pub is : (ln : List ℕ) (m t u : ℕ) → m < 8 → tag_at ms j ≡ 7 → arg_at ms j ≡ 2 ^ m → tag_at ms (left_at ms j) ≡ 9 → link_rule (lean_forms ms ln) m t u (form ms (left_at ms j)) ≡ not (clash ms ln d m t u)
 
--- condition c
-pub record OfPlace (ms ln : List ℕ) (c : ℕ) (d : Condition) : Type 0 where
+-- condition c, if there is one
+pub record OfPlace (ms ln : List ℕ) (c : ℕ) (d : Option Condition) : Type 0 where
   pub even : c % 2 ≡ 0 → Own ms (get_or ln (c / 2) 0) d
   pub odd : c % 2 ≡ 1 → Below ms (get_or ln (c / 2) 0) d
   pub inside : Inside ms d

@@ -1,5 +1,5 @@
 -- What the functions that write condition words leave behind, step by step. Assumes nothing.
-use Rattle.std.specs.Prelude.{◌≡◌, Bool, true, ◌&&◌, List, ℕ, ◌+◌, ◌*◌, ◌%◌, ◌^◌, ◌<◌, get_or}
+use Rattle.std.specs.Prelude.{◌≡◌, Option, Bool, true, ◌&&◌, List, ℕ, ◌+◌, ◌*◌, ◌%◌, ◌^◌, ◌<◌, get_or}
 use Rattle.wordset.specs.Word.{bit}
 use Rattle.truth.specs.Blocks.{has}
 use Rattle.conditions.specs.Entries.{in_some, refusing, side}
@@ -16,7 +16,7 @@ pub record Put (P : ℕ → Bool) (w c : ℕ) (cw cw' : List ℕ) : Type 0 where
 pub record Sided (ms ln : List ℕ) (w : ℕ) (cw : List ℕ) (c : ℕ) : Type 0 where
   pub low : (m e : ℕ) → m < 8 → bit (side w cw m) e ≡ true → e < c
   pub each : (e : ℕ) → e < c
-      → (d : Condition) × OfPlace ms ln e d × ((m : ℕ) → m < 8 → (t u : ℕ) → t < w * 64 → u < w * 64 → (bit (side w cw m) e && (has w cw (e + 32) t && has w cw e u)) ≡ clash ms ln d m t u)
+      → (d : Option Condition) × OfPlace ms ln e d × ((m : ℕ) → m < 8 → (t u : ℕ) → t < w * 64 → u < w * 64 → (bit (side w cw m) e && (has w cw (e + 32) t && has w cw e u)) ≡ clash ms ln d m t u)
 
 -- backward modes have the sides of the fields, moved by 32, and the entries and the fields' sides are as they were
 pub record Turned (w : ℕ) (cw cw' : List ℕ) : Type 0 where

@@ -10,7 +10,7 @@ ghost use Rattle.truth.specs.Blocks.{has};
 ghost use Rattle.truth.specs.Tables.{Leans, Table};
 ghost use Rattle.truth.specs.Truths.{Truths};
 ghost use Rattle.conditions.specs.Entries.{in_some, side};
-ghost use Rattle.conditions.specs.Conditions.{Below, Conditions, OfPlace, Own, Placed, nothing, reverse, selects};
+ghost use Rattle.conditions.specs.Conditions.{Below, Conditions, OfPlace, Own, Placed, reverse, selects};
 ghost use Rattle.conditions.specs.Putting.{Put, Sided, Summed, Turned};
 
 use members::parts::{arg, has_mode, left, mode_of, right, tag};
@@ -24,7 +24,7 @@ pub enum Rule {
     BothWays,
 }
 
-// A condition of links along a field (8: of none), by its rule, a member, and its body or right operand.
+// A condition of links along a field, by its rule, a member, and its body or right operand.
 #[derive(Clone, Copy)]
 pub struct Condition {
     pub field: usize,
@@ -33,96 +33,67 @@ pub struct Condition {
     pub part: usize,
 }
 
-fn none() -> Condition
-    ensures { result ≡ nothing }
-{
-    Condition {
-        field: 8,
-        rule: Rule::Forward,
-        whole: 0,
-        part: 0,
-    }
-}
-
-// The condition that member j makes, an EX over a field or an AX over one mode.
-fn own(ms: &[u64], j: usize) -> Condition
+// The condition that member j makes, if it is an EX over a field or an AX over one mode.
+fn own(ms: &[u64], j: usize) -> Option<Condition>
     requires { Table ms.now × (j < length ms.now) }
     ensures { Own ms.now j result }
 {
     let x = ms[j];
-    let g = tag(x);
-    if g < 6 {
-        return none();
-    }
-    if g > 7 {
-        return none();
-    }
     let m = mode_of(arg(x));
-    if m < 8 {
-        return Condition {
+    match tag(x) {
+        6 | 7 if m < 8 => Some(Condition {
             field: m,
             rule: Rule::Forward,
             whole: j,
             part: left(x),
-        };
-    }
-    if g == 6 {
-        return none();
-    }
-    if m == 16 {
-        return none();
-    }
-    Condition {
-        field: m - 8,
-        rule: Rule::Backward,
-        whole: j,
-        part: left(x),
+        }),
+        7 if m < 16 => Some(Condition {
+            field: m - 8,
+            rule: Rule::Backward,
+            whole: j,
+            part: left(x),
+        }),
+        _ => None,
     }
 }
 
 // The condition that the body of member j makes, if j is AX over a field and the body an AU along that field both ways.
-fn below(ms: &[u64], j: usize) -> Condition
+fn below(ms: &[u64], j: usize) -> Option<Condition>
     requires { Table ms.now × (j < length ms.now) }
     ensures { Below ms.now j result }
 {
     let x = ms[j];
     if tag(x) != 7 {
-        return none();
+        return None;
     }
     let m = mode_of(arg(x));
     if m >= 8 {
-        return none();
+        return None;
     }
     let i = left(x);
     let y = ms[i];
     if tag(y) != 9 {
-        return none();
+        return None;
     }
     let a = arg(y);
-    if !has_mode(a, m) {
-        return none();
+    if !has_mode(a, m) || !has_mode(a, m + 8) {
+        return None;
     }
-    if !has_mode(a, m + 8) {
-        return none();
-    }
-    Condition {
+    Some(Condition {
         field: m,
         rule: Rule::BothWays,
         whole: i,
         part: right(y),
-    }
+    })
 }
 
-// Condition c: lean place k has 2k for its own, and 2k + 1 for that of its body.
-fn condition_at(ms: &[u64], ln: &[u8], c: usize) -> Condition
+// Condition c, if there is one: lean place k has 2k for its own, and 2k + 1 for that of its body.
+fn condition_at(ms: &[u64], ln: &[u8], c: usize) -> Option<Condition>
     requires { Table ms.now × (Leans ms.now ln.now × (c < length ln.now * 2)) }
     ensures { OfPlace ms.now ln.now c result }
 {
     let j = ln[c / 2] as usize;
-    if c % 2 == 0 {
-        return own(ms, j);
-    }
-    below(ms, j)
+    if c % 2 == 0 { own(ms, j) } else { below(ms, j) }
 }
 
 // Answers k of the types that demand by a rule, with the member of block i and the body or right operand of block p.
@@ -155,12 +126,10 @@ fn put_entry(tw: &[u64], w: usize, rule: Rule, i: usize, p: usize, cw: &mut [u64
     ensures t_after { result ≡ false → (t : ℕ) → t < w * 64 → has w cw.new c t ≡ false }
 {
     let mut any: u64 = 0;
-    let mut k = 0;
-    while k < w {
+    for k in 0..w {
         let x = selected(tw, w, rule, i, p, k);
         cw[c * w + k] = x;
-        any = any | x;
-        k += 1;
+        any |= x;
     }
     any != 0
 }
@@ -171,22 +140,16 @@ fn put_condition(ms: &[u64], ln: &[u8], tw: &[u64], w: usize, cw: &mut [u64], c:
     requires truths { Truths ms.now ln.now w tw.now × ((w * 64 + 16 ≤ length cw.old) × ((w ≤ 1024) × (c < 24))) }
     ensures { Sided ms.now ln.now w cw.old c → Sided ms.now ln.now w cw.new (c + 1) }
 {
-    let d = condition_at(ms, ln, c);
-    let f = d.field;
-    if f == 8 {
+    let Some(d) = condition_at(ms, ln, c) else {
+        return;
+    };
+    if !put_entry(tw, w, reversed(d.rule), d.whole, d.part, cw, c) {
         return;
     }
-    let rule = d.rule;
-    let i = d.whole;
-    let p = d.part;
-    if !put_entry(tw, w, reversed(rule), i, p, cw, c) {
+    if !put_entry(tw, w, d.rule, d.whole, d.part, cw, c + 32) {
         return;
     }
-    if !put_entry(tw, w, rule, i, p, cw, c + 32) {
-        return;
-    }
-    let at = w * 64 + f;
-    cw[at] = cw[at] | (1 << c);
+    cw[w * 64 + d.field] |= 1 << c;
 }
 
 // The fields have no conditions yet.
@@ -194,11 +157,7 @@ fn clear_sides(cw: &mut [u64], w: usize)
     requires { (w * 64 + 16 ≤ length cw.old) × (w ≤ 1024) }
     ensures { (m : ℕ) → m < 8 → get_or cw.new (w * 64 + m) 0 ≡ 0 }
 {
-    let mut m = 0;
-    while m < 8 {
-        cw[w * 64 + m] = 0;
-        m += 1;
-    }
+    cw[w * 64..w * 64 + 8].fill(0);
 }
 
 // The conditions of all lean places.
@@ -208,11 +167,8 @@ fn put_conditions(ms: &[u64], ln: &[u8], tw: &[u64], w: usize, cw: &mut [u64])
     ensures { Sided ms.now ln.now w cw.new (length ln.now * 2) }
 {
     clear_sides(cw, w);
-    let n = ln.len() * 2;
-    let mut c = 0;
-    while c < n {
+    for c in 0..ln.len() * 2 {
         put_condition(ms, ln, tw, w, cw, c);
-        c += 1;
     }
 }
 
@@ -221,10 +177,8 @@ fn turn_sides(cw: &mut [u64], w: usize)
     requires { (w * 64 + 16 ≤ length cw.old) × (w ≤ 1024) }
     ensures { Turned w cw.old cw.new }
 {
-    let mut f = 0;
-    while f < 8 {
+    for f in 0..8 {
         cw[w * 64 + 8 + f] = cw[w * 64 + f] << 32;
-        f += 1;
     }
 }
 
@@ -236,9 +190,9 @@ pub fn some_word(cw: &[u64], w: usize, r: u64, k: usize) -> u64
     let mut acc: u64 = 0;
     let mut rest = r;
     while rest != 0 {
-        let c = u64::trailing_zeros(rest) as usize;
-        acc = acc | cw[c * w + k];
-        rest = rest & (rest - 1);
+        let c = rest.trailing_zeros() as usize;
+        acc |= cw[c * w + k];
+        rest &= rest - 1;
     }
     acc
 }
@@ -248,11 +202,8 @@ fn put_sum(cw: &mut [u64], w: usize, a: u64, e: usize)
     requires { (w * 64 + 16 ≤ length cw.old) × (w ≤ 1024) × (e < 64) }
     ensures { Put (in_some w cw.old a) w e cw.old cw.new }
 {
-    let mut k = 0;
-    while k < w {
-        let x = some_word(cw, w, a, k);
-        cw[e * w + k] = x;
-        k += 1;
+    for k in 0..w {
+        cw[e * w + k] = some_word(cw, w, a, k);
     }
 }
 
@@ -262,11 +213,9 @@ fn put_sums(cw: &mut [u64], w: usize)
     requires by_index { (m c : ℕ) → m < 16 → bit (side w cw.old m) c ≡ true → c % 32 < 24 }
     ensures { Summed w cw.old cw.new 16 }
 {
-    let mut m = 0;
-    while m < 16 {
+    for m in 0..16 {
         let a = cw[w * 64 + m];
         put_sum(cw, w, a, 24 + m % 8 + m / 8 * 32);
-        m += 1;
     }
 }
 

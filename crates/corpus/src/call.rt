@@ -5,158 +5,134 @@ use crate::list::list;
 use crate::snapshots::snapshot;
 use crate::table::table;
 use crate::verdict::{goal, program, verdict};
-use corpus_text::number::{ends, has_slash, number_at, pair_at};
+use corpus_text::number::{has_slash, number_at, numbers_at, pair_at};
 use lockgraph::{Limits, usual_limits};
 use std::io::{Stderr, Stdout};
+
+// What every operation is given: where its outcome goes, the limits, the line as it is written, and the sheet in hand.
+#[derive(Clone, Copy)]
+pub struct Call<'a> {
+    pub out: Stdout,
+    pub limits: Limits,
+    pub line: &'a [u8],
+    pub sheet: &'a [u8],
+}
+
+#[derive(Clone, Copy)]
+enum Operation {
+    Verdict,
+    Goal,
+    Program,
+    Facts,
+    Table,
+    Book,
+    Clean,
+    List,
+    Snapshot,
+}
+
+fn operation_of(word: &[u8]) -> Option<Operation> {
+    match word {
+        b"verdict" => Some(Operation::Verdict),
+        b"goal" => Some(Operation::Goal),
+        b"program" => Some(Operation::Program),
+        b"facts" => Some(Operation::Facts),
+        b"table" => Some(Operation::Table),
+        b"book" => Some(Operation::Book),
+        b"clean" => Some(Operation::Clean),
+        b"list" => Some(Operation::List),
+        b"snapshot" => Some(Operation::Snapshot),
+        _ => None,
+    }
+}
 
 // The limits of a call, and where its own words begin: past the line's end where it has none.
 #[derive(Clone, Copy)]
 struct Given {
     limits: Limits,
     next: usize,
-    right: bool,
 }
 
 // The limits at a place of the line, the usual ones where none stand there.
-fn limits_at(line: &[u8], at: usize) -> Given {
+fn limits_at(line: &[u8], at: usize) -> Option<Given> {
     if !has_slash(line, at) {
-        return Given {
+        return Some(Given {
             limits: usual_limits(),
             next: at,
-            right: true,
-        };
+        });
     }
-    let p = pair_at(line, at);
-    let limits = Limits {
-        lean: p.first as usize,
-        closure: p.second as usize,
-    };
-    Given {
-        limits,
-        next: p.next,
-        right: p.right,
-    }
-}
-
-fn table_call(out: Stdout, l: Limits, line: &[u8], at: usize, sheet: &[u8]) -> bool {
-    let naming = number_at(line, at);
-    let first = number_at(line, naming.next);
-    let second = number_at(line, first.next);
-    if ends(line, second) {
-        table(out, l, line, sheet, naming.value, first.value, second.value);
-        return true;
-    }
-    false
-}
-
-fn book_call(out: Stdout, l: Limits, line: &[u8], at: usize, sheet: &[u8]) -> bool {
-    let length = number_at(line, at);
-    if ends(line, length) {
-        return book(out, l, line, sheet, length.value);
-    }
-    false
-}
-
-fn clean_call(out: Stdout, l: Limits, line: &[u8], at: usize, sheet: &[u8]) -> bool {
-    let length = number_at(line, at);
-    if ends(line, length) {
-        clean(out, l, line, sheet, length.value);
-        return true;
-    }
-    false
-}
-
-fn list_call(out: Stdout, l: Limits, line: &[u8], at: usize, sheet: &[u8]) -> bool {
-    let naming = number_at(line, at);
-    let length = number_at(line, naming.next);
-    if ends(line, length) {
-        list(out, l, line, sheet, naming.value, length.value);
-        return true;
-    }
-    false
+    let pair = pair_at(line, at)?;
+    Some(Given {
+        limits: Limits {
+            lean: pair.first as usize,
+            closure: pair.second as usize,
+        },
+        next: pair.next,
+    })
 }
 
 // The call is written up to its number's end; what stands behind the space there is the text.
-fn snapshot_call(out: Stdout, l: Limits, line: &[u8], at: usize, sheet: &[u8]) -> bool {
-    let n = line.len();
-    if n < at {
-        return false;
-    }
-    let length = number_at(line, at);
-    let next = length.next;
-    if !length.right {
-        return false;
-    }
-    if n < next {
-        return snapshot(out, l, line, sheet, b"", length.value);
-    }
-    let end = layout::end_of(32, line, at);
-    snapshot(out, l, &line[0..end], sheet, &line[next..n], length.value)
+fn snapshot_at(call: Call, at: usize) -> Option<()> {
+    let line = call.line;
+    let length = number_at(line, at)?;
+    let written = Call {
+        line: &line[..length.next - 1],
+        ..call
+    };
+    let text = line.get(length.next..).unwrap_or(b"");
+    snapshot(written, text, length.value)
 }
 
-// A call that has words of its own, from a place of the line on.
-fn with_words(
-    out: Stdout,
-    l: Limits,
-    operation: &[u8],
-    line: &[u8],
-    at: usize,
-    sheet: &[u8],
-) -> bool {
-    if layout::same_text(operation, b"table") {
-        return table_call(out, l, line, at, sheet);
+// The outcome of an operation whose own words begin at a place of the line.
+fn outcome(operation: Operation, call: Call, err: Stderr, at: usize) -> Option<()> {
+    match operation {
+        Operation::Verdict => {
+            let [] = numbers_at::<0>(call.line, at)?;
+            verdict(call);
+        }
+        Operation::Goal => {
+            let [] = numbers_at::<0>(call.line, at)?;
+            goal(call);
+        }
+        Operation::Program => {
+            let [] = numbers_at::<0>(call.line, at)?;
+            program(call, err);
+        }
+        // This program passes over the facts.
+        Operation::Facts => {
+            let [] = numbers_at::<0>(call.line, at)?;
+        }
+        Operation::Table => {
+            let [naming, first, second] = numbers_at::<3>(call.line, at)?;
+            table(call, naming, first, second);
+        }
+        Operation::Book => {
+            let [length] = numbers_at::<1>(call.line, at)?;
+            book(call, length)?;
+        }
+        Operation::Clean => {
+            let [length] = numbers_at::<1>(call.line, at)?;
+            clean(call, length);
+        }
+        Operation::List => {
+            let [naming, length] = numbers_at::<2>(call.line, at)?;
+            list(call, naming, length);
+        }
+        Operation::Snapshot => snapshot_at(call, at)?,
     }
-    if layout::same_text(operation, b"book") {
-        return book_call(out, l, line, at, sheet);
-    }
-    if layout::same_text(operation, b"clean") {
-        return clean_call(out, l, line, at, sheet);
-    }
-    if layout::same_text(operation, b"list") {
-        return list_call(out, l, line, at, sheet);
-    }
-    if layout::same_text(operation, b"snapshot") {
-        return snapshot_call(out, l, line, at, sheet);
-    }
-    false
-}
-
-// A call that has none.
-fn without_words(
-    out: Stdout,
-    err: Stderr,
-    l: Limits,
-    operation: &[u8],
-    line: &[u8],
-    sheet: &[u8],
-) -> bool {
-    if layout::same_text(operation, b"verdict") {
-        verdict(out, l, line, sheet);
-        return true;
-    }
-    if layout::same_text(operation, b"goal") {
-        goal(out, l, line, sheet);
-        return true;
-    }
-    if layout::same_text(operation, b"program") {
-        program(out, err, l, line, sheet);
-        return true;
-    }
-    // This program passes over the facts.
-    layout::same_text(operation, b"facts")
+    Some(())
 }
 
 // The outcome of an operation on the sheet, unless the line is not understood.
-pub fn answer(out: Stdout, err: Stderr, line: &[u8], sheet: &[u8]) -> bool {
-    let n = line.len();
-    let end = layout::end_of(32, line, 0);
-    let given = limits_at(line, end + 1);
-    let l = given.limits;
-    if !given.right {
-        return false;
-    }
-    if n < given.next {
-        return without_words(out, err, l, &line[0..end], line, sheet);
-    }
-    with_words(out, l, &line[0..end], line, given.next, sheet)
+pub fn answer(out: Stdout, err: Stderr, line: &[u8], sheet: &[u8]) -> Option<()> {
+    let end = layout::end_of(b' ', line, 0);
+    let operation = operation_of(&line[..end])?;
+    let given = limits_at(line, end + 1)?;
+    let call = Call {
+        out,
+        limits: given.limits,
+        line,
+        sheet,
+    };
+    outcome(operation, call, err, given.next)
 }

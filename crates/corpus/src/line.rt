@@ -1,138 +1,76 @@
 // Lines out of chunks of input. A line that the store has no room for is over every limit of an operation, so what is past its end is dropped, with the part of an
 // escape before it; the line of a case is written on as it comes.
-use crate::run::{finish, is_case, write_line};
+use crate::run::{NotUnderstood, Sheet, finish, is_case, write_line};
+use corpus_text::bytes::Bytes;
 use corpus_text::output::write_text;
-use corpus_text::text::{put, whole};
+use corpus_text::text::whole;
 use std::io::{Stderr, Stdout};
 
+// Which part of the line is not in its store.
 #[derive(Clone, Copy)]
-pub struct State {
-    // The bytes of the line so far.
-    pub len: usize,
-    // The line goes on past them.
-    pub cut: bool,
-    // The line's beginning is written already.
-    pub echo: bool,
-    // The bytes of the sheet in hand.
-    pub sheet: usize,
-    pub stop: bool,
+enum Missing {
+    Nothing,
+    // The end, which is dropped.
+    End,
+    // The beginning, which is written already.
+    Beginning,
 }
 
-pub fn begin() -> State {
-    State {
-        len: 0,
-        cut: false,
-        echo: false,
-        sheet: 0,
-        stop: false,
-    }
+// The line so far, and the sheet in hand.
+#[derive(Drop)]
+pub struct Reader {
+    line: Bytes<8192>,
+    missing: Missing,
+    sheet: Sheet,
 }
 
-pub fn stopped(state: State) -> State {
-    State {
-        len: state.len,
-        cut: state.cut,
-        echo: state.echo,
-        sheet: state.sheet,
-        stop: true,
-    }
-}
-
-// One byte more, that is no newline.
-fn push(out: Stdout, line: &mut [u8], state: State, b: u8) -> State {
-    let n = state.len;
-    let sheet = state.sheet;
-    if n < line.len() {
-        line[n] = b;
-        return State {
-            len: n + 1,
-            cut: state.cut,
-            echo: state.echo,
-            sheet,
-            stop: state.stop,
-        };
-    }
-    if state.echo {
-        write_text(out, line);
-    } else if is_case(line) {
-        write_text(out, line);
-    } else {
-        return State {
-            len: n,
-            cut: true,
-            echo: false,
-            sheet,
-            stop: state.stop,
-        };
-    }
-    let len = put(line, 0, b);
-    State {
-        len,
-        cut: false,
-        echo: true,
-        sheet,
-        stop: false,
-    }
-}
-
-// The line is over: it is what is left of a case's name, or asks for an outcome.
-fn finished(out: Stdout, err: Stderr, line: &[u8], sheet: &mut [u8], state: State) -> State {
-    if state.echo {
-        write_line(out, line);
-        return State {
-            len: 0,
-            cut: false,
-            echo: false,
-            sheet: state.sheet,
-            stop: false,
-        };
-    }
-    let done = finish(out, err, line, sheet, state.sheet);
-    State {
-        len: 0,
-        cut: false,
-        echo: false,
-        sheet: done.sheet,
-        stop: done.stop,
-    }
-}
-
-fn ended(out: Stdout, err: Stderr, line: &[u8], sheet: &mut [u8], state: State) -> State {
-    let n = state.len;
-    if line.len() < n {
-        return state;
-    }
-    if state.cut {
-        let end = whole(&line[0..n]);
-        return finished(out, err, &line[0..end], sheet, state);
-    }
-    finished(out, err, &line[0..n], sheet, state)
-}
-
-fn step(out: Stdout, err: Stderr, line: &mut [u8], sheet: &mut [u8], state: State, b: u8) -> State {
-    if b == 10 {
-        return ended(out, err, line, sheet, state);
-    }
-    push(out, line, state, b)
-}
-
-// A chunk of input, up to a line that is not understood.
-pub fn feed(
-    out: Stdout,
-    err: Stderr,
-    chunk: &[u8],
-    line: &mut [u8],
-    sheet: &mut [u8],
-    begun: State,
-) -> State {
-    let mut state = begun;
-    let mut i = 0;
-    while i < chunk.len() {
-        state = step(out, err, line, sheet, state, chunk[i]);
-        if state.stop {
-            return state;
+impl Reader {
+    pub fn new() -> Self {
+        Reader {
+            line: Bytes::new(),
+            missing: Missing::Nothing,
+            sheet: Bytes::new(),
         }
-        i += 1;
     }
-    state
+
+    // One byte more, that is no newline.
+    fn push(&mut self, out: Stdout, b: u8) {
+        if self.line.push(b) {
+            return;
+        }
+        let line = self.line.as_slice();
+        if matches!(self.missing, Missing::Beginning) || is_case(line) {
+            write_text(out, line);
+            self.line.clear();
+            self.line.push(b);
+            self.missing = Missing::Beginning;
+        } else {
+            self.missing = Missing::End;
+        }
+    }
+
+    // The line is over: it is what is left of a case's name, or asks for an outcome.
+    fn end(&mut self, out: Stdout, err: Stderr) -> Result<(), NotUnderstood> {
+        let line = self.line.as_slice();
+        match self.missing {
+            Missing::Nothing => finish(out, err, line, &mut self.sheet)?,
+            Missing::End => finish(out, err, &line[..whole(line)], &mut self.sheet)?,
+            Missing::Beginning => write_line(out, line),
+        }
+        self.line.clear();
+        self.missing = Missing::Nothing;
+        Ok(())
+    }
+
+    // A chunk of input, up to a line that is not understood.
+    pub fn feed(&mut self, out: Stdout, err: Stderr, chunk: &[u8]) -> Result<(), NotUnderstood> {
+        for &b in chunk {
+            if b == b'\n' {
+                self.end(out, err)?;
+            } else {
+                self.push(out, b);
+            }
+        }
+        Ok(())
+    }
 }

@@ -1,53 +1,33 @@
 // The outcome of Table: the part handed back, and the counts of surviving types.
+use crate::call::Call;
 use corpus_text::number::at_most;
 use corpus_text::outcome::{write_count, write_end, write_operation, write_refused, write_words};
 use corpus_text::output::write_text;
-use corpus_text::store::{fill_words, same_words, words_kept};
-use lockgraph::{Limits, TableAnswer};
+use corpus_text::store::{fill, kept, same_words};
+use lockgraph::{Refusal, Tabled};
 use std::io::Stdout;
 
-// The first of some words, or another one where there is none.
-fn head(words: &[u64], other: u64) -> u64 {
-    if 0 < words.len() {
-        return words[0];
-    }
-    other
-}
-
-// Writes the first of some words, where there is one.
-fn set_head(words: &mut [u64], word: u64) {
-    if 0 < words.len() {
-        words[0] = word;
-    }
-}
-
 // The part handed back is of the first store. Both hold the same words, so the first one's word 0 is complemented for the while: only its part shows that.
-fn is_first(first: &mut [u64], second: &[u64], answer: TableAnswer) -> bool {
-    let old = head(first, 0);
-    let marked = old ^ u64::MAX;
-    set_head(first, marked);
-    let seen = head(lockgraph::part(first, second, answer), old);
-    set_head(first, old);
-    seen == marked
+fn is_first(first: &mut [u64], second: &[u64], answer: Result<Tabled, Refusal>) -> bool {
+    let Some(&word) = first.first() else {
+        return false;
+    };
+    first[0] = !word;
+    let seen = lockgraph::part(first, second, answer).first() == Some(&!word);
+    first[0] = word;
+    seen
 }
 
 // The part handed back has the words promised, both stores have the same ones, and nothing else is written.
-fn kept<'a>(first: &'a [u64], second: &'a [u64], answer: TableAnswer, words: usize) -> bool {
-    let part = lockgraph::part(first, second, answer);
-    if part.len() != words {
-        return false;
-    }
-    if !same_words(first, second, words) {
-        return false;
-    }
-    if !words_kept(first, words) {
-        return false;
-    }
-    words_kept(second, words)
+fn as_promised(first: &[u64], second: &[u64], answer: Result<Tabled, Refusal>, words: usize) -> bool {
+    lockgraph::part(first, second, answer).len() == words
+        && same_words(first, second, words)
+        && kept(first, words)
+        && kept(second, words)
 }
 
 // Which store the part handed back is of, and its words.
-fn write_part(out: Stdout, first: &mut [u64], second: &[u64], answer: TableAnswer) {
+fn write_part(out: Stdout, first: &mut [u64], second: &[u64], answer: Result<Tabled, Refusal>) {
     if is_first(first, second, answer) {
         write_text(out, b" first");
     } else {
@@ -57,47 +37,30 @@ fn write_part(out: Stdout, first: &mut [u64], second: &[u64], answer: TableAnswe
 }
 
 // What the answer says, and whether the stores are as it promises.
-fn write_answer(out: Stdout, first: &mut [u64], second: &[u64], answer: TableAnswer) {
+fn write_answer(out: Stdout, first: &mut [u64], second: &[u64], answer: Result<Tabled, Refusal>) {
     match answer {
-        TableAnswer::Refused(k) => {
-            write_refused(out, k);
-            write_end(out, kept(first, second, answer, 0));
+        Err(why) => {
+            write_refused(out, why.number());
+            write_end(out, as_promised(first, second, answer, 0));
         }
-        TableAnswer::Done {
-            words,
-            start,
-            left,
-            rounds,
-        } => {
+        Ok(t) => {
             write_part(out, first, second, answer);
-            write_count(out, b" start ", start);
-            write_count(out, b" left ", left);
-            write_count(out, b" rounds ", rounds);
-            write_end(out, kept(first, second, answer, words));
+            write_count(out, b" start ", t.start);
+            write_count(out, b" left ", t.left);
+            write_count(out, b" rounds ", t.rounds);
+            write_end(out, as_promised(first, second, answer, t.words));
         }
     }
 }
 
-// Table with the stores given.
-fn table_with(
-    out: Stdout,
-    l: Limits,
-    sheet: &[u8],
-    naming: u64,
-    first: &mut [u64],
-    second: &mut [u64],
-) {
-    fill_words(first);
-    fill_words(second);
-    let answer = lockgraph::table_within(l, sheet, naming, first, second);
-    write_answer(out, first, second, answer);
-}
-
-pub fn table(out: Stdout, l: Limits, line: &[u8], sheet: &[u8], naming: u64, one: u64, other: u64) {
-    let mut first = [0u64; 128];
-    let mut second = [0u64; 128];
-    let a = at_most(one, 128);
-    let b = at_most(other, 128);
-    write_operation(out, line);
-    table_with(out, l, sheet, naming, &mut first[0..a], &mut second[0..b]);
+pub fn table(call: Call, naming: u64, one: u64, other: u64) {
+    let mut words = [0u64; 128];
+    let mut others = [0u64; 128];
+    let first = &mut words[..at_most(one, 128)];
+    let second = &mut others[..at_most(other, 128)];
+    fill(first);
+    fill(second);
+    write_operation(call.out, call.line);
+    let answer = lockgraph::table_within(call.limits, call.sheet, naming, first, second);
+    write_answer(call.out, first, second, answer);
 }

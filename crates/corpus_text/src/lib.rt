@@ -2,6 +2,7 @@
 // have in common, and what List, Book, Clean and Snapshot answer.
 #![tactic(auto)]
 
+pub mod bytes;
 pub mod cleaned;
 pub mod number;
 pub mod outcome;

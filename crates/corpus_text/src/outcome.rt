@@ -1,5 +1,6 @@
 // The parts that the outcome lines of several operations have in common.
 use crate::output::{write_decimal, write_text, write_word};
+use crate::store::{Pattern, kept};
 use std::io::Stdout;
 
 // The operation as its line gives it, and a colon.
@@ -10,7 +11,7 @@ pub fn write_operation(out: Stdout, line: &[u8]) {
 
 pub fn write_refused(out: Stdout, k: u8) {
     write_text(out, b" refused ");
-    write_decimal(out, k as u64);
+    write_decimal(out, u64::from(k));
 }
 
 // Ends an outcome line, which says last whether a store was written where nothing is promised.
@@ -21,12 +22,28 @@ pub fn write_end(out: Stdout, kept: bool) {
     write_text(out, b"\n");
 }
 
+// The refusal of an operation that was lent a store: none of it may be written.
+pub fn write_refusal<T: Pattern>(out: Stdout, k: u8, store: &[T]) {
+    write_refused(out, k);
+    write_end(out, kept(store, 0));
+}
+
+// The first n elements of a store, as `write` gives them, and the line's end; a store that has not so many is disturbed.
+pub fn write_part<T: Pattern, F: Fn(Stdout, &[T])>(out: Stdout, store: &[T], n: usize, write: F)
+    requires { F.IsAlwaysCallable write }
+{
+    if n <= store.len() {
+        write(out, &store[..n]);
+        write_end(out, kept(store, n));
+    } else {
+        write_end(out, false);
+    }
+}
+
 pub fn write_words(out: Stdout, words: &[u64]) {
-    let mut i = 0;
-    while i < words.len() {
+    for &word in words {
         write_text(out, b" ");
-        write_word(out, words[i]);
-        i += 1;
+        write_word(out, word);
     }
 }
 

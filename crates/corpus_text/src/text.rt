@@ -1,165 +1,76 @@
 // Escaped text: `\n` is a newline, `\\` a backslash, `\xHH` any byte; all other bytes stand for themselves.
-ghost use Rattle.std.specs.Prelude.{◌≤◌, length};
+ghost use Rattle.std.specs.Prelude.{◌≤◌, ◌<◌, length, IfSome};
 
+use crate::bytes::Bytes;
 use crate::output::{write_hex, write_text};
 use std::io::Stdout;
 
-// The bytes that a text stands for, as far as the store has room, and whether the text is one.
-#[derive(Clone, Copy)]
-pub struct Read {
-    pub count: usize,
-    pub right: bool,
-}
-
-// One byte of a text: its value, and where the next begins; `next` is 0 where the text is wrong.
-#[derive(Clone, Copy)]
-pub struct Escape {
-    pub value: u8,
-    pub next: usize,
-}
-
-fn wrong() -> Escape {
-    Escape { value: 0, next: 0 }
-}
-
-// A lower-case hexadecimal digit's value, or 16.
-fn digit(b: u8) -> u8 {
-    if b < 48 {
-        return 16;
-    }
-    if b <= 57 {
-        return b - 48;
-    }
-    if b < 97 {
-        return 16;
-    }
-    if b <= 102 {
-        return b - 87;
-    }
-    16
-}
-
-fn hexed(text: &[u8], i: usize) -> Escape {
-    if text.len() < 4 {
-        return wrong();
-    }
-    if text.len() - 4 < i {
-        return wrong();
-    }
-    let high = digit(text[i + 2]);
-    let low = digit(text[i + 3]);
-    if 16 <= high {
-        return wrong();
-    }
-    if 16 <= low {
-        return wrong();
-    }
-    Escape {
-        value: high * 16 + low,
-        next: i + 4,
+// A lower-case hexadecimal digit's value.
+fn digit(b: u8) -> Option<u8>
+    ensures { IfSome result (λ v. v < 16) }
+{
+    match b {
+        b'0'..=b'9' => Some(b - b'0'),
+        b'a'..=b'f' => Some(b - b'a' + 10),
+        _ => None,
     }
 }
 
-fn next_byte(text: &[u8], i: usize) -> Escape {
-    if text.len() <= i {
-        return wrong();
-    }
-    let b = text[i];
-    if b != 92 {
-        return Escape {
-            value: b,
-            next: i + 1,
-        };
-    }
-    if text.len() - i < 2 {
-        return wrong();
-    }
-    match text[i + 1] {
-        110 => Escape {
-            value: 10,
-            next: i + 2,
-        },
-        92 => Escape {
-            value: 92,
-            next: i + 2,
-        },
-        120 => hexed(text, i),
-        _ => wrong(),
+// The byte that a text begins with, and the text behind it; none where the text is empty, or begins with a wrong escape.
+fn next_byte(text: &[u8]) -> Option<(u8, &[u8])>
+    ensures { IfSome result (λ p. length p.1.now < length text.now) }
+{
+    match text {
+        [b'\\', b'n', rest @ ..] => Some((b'\n', rest)),
+        [b'\\', b'\\', rest @ ..] => Some((b'\\', rest)),
+        [b'\\', b'x', high, low, rest @ ..] => Some((digit(*high)? * 16 + digit(*low)?, rest)),
+        [] | [b'\\', ..] => None,
+        [b, rest @ ..] => Some((*b, rest)),
     }
 }
 
-// Stores a byte behind the first n, where there is room, and answers how many there are then.
-pub fn put(store: &mut [u8], n: usize, b: u8) -> usize {
-    if n < store.len() {
-        store[n] = b;
-        return n + 1;
+// The bytes that a text stands for, as far as there is room for them; none where the text is wrong.
+pub fn unescape<const N: usize>(text: &[u8]) -> Option<Bytes<N>> {
+    let mut bytes = Bytes::new();
+    let mut rest = text;
+    while !rest.is_empty() {
+        let (b, behind) = next_byte(rest)?;
+        bytes.push(b);
+        rest = behind;
     }
-    n
-}
-
-pub fn unescape(text: &[u8], store: &mut [u8]) -> Read {
-    let mut i = 0;
-    let mut n: usize = 0;
-    while i < text.len() {
-        let u = next_byte(text, i);
-        let next = u.next;
-        if next <= i {
-            return Read {
-                count: n,
-                right: false,
-            };
-        }
-        n = put(store, n, u.value);
-        i = next;
-    }
-    Read {
-        count: n,
-        right: true,
-    }
+    Some(bytes)
 }
 
 // Where a text that was cut ends, without an escape that it may have only a part of.
 pub fn whole(text: &[u8]) -> usize
     ensures { result ≤ length text.now }
 {
-    let n = text.len();
-    let mut i = 0;
-    while i < text.len() {
-        let u = next_byte(text, i);
-        let next = u.next;
-        if next <= i {
-            if n - i < 4 {
-                return i;
-            }
-            return n;
-        }
-        i = next;
+    let mut rest = text;
+    while let Some((_, behind)) = next_byte(rest) {
+        rest = behind;
     }
-    n
+    if rest.len() < 4 {
+        text.len() - rest.len()
+    } else {
+        text.len()
+    }
 }
 
 fn write_byte(out: Stdout, b: u8) {
-    if b == 10 {
-        write_text(out, b"\\n");
-        return;
+    match b {
+        b'\n' => write_text(out, b"\\n"),
+        b'\\' => write_text(out, b"\\\\"),
+        b' '..=b'~' => write_text(out, &[b]),
+        _ => {
+            write_text(out, b"\\x");
+            write_hex(out, b);
+        }
     }
-    if b == 92 {
-        write_text(out, b"\\\\");
-        return;
-    }
-    if b < 32 || 126 < b {
-        write_text(out, b"\\x");
-        write_hex(out, b);
-        return;
-    }
-    write_text(out, &[b]);
 }
 
 // Writes a text escaped.
 pub fn write_escaped(out: Stdout, text: &[u8]) {
-    let mut i = 0;
-    while i < text.len() {
-        write_byte(out, text[i]);
-        i += 1;
+    for &b in text {
+        write_byte(out, b);
     }
 }

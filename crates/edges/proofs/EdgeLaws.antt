@@ -1,49 +1,21 @@
 -- Edges by the store's entries are the edges of the snapshot that it holds. Assumes nothing.
-use Prim.Native.Nat.{ℕ, suc, ◌+◌, ◌-◌, ◌≤◌, ◌<◌}
+use Prim.Native.Nat.{ℕ, suc, ◌+◌, ◌-◌, ◌<◌}
 use native.Mathlib.Omega.{arith}
 use native.Mathlib.Numerals.{add-one}
 use mathlib.Core.Path.{◌≡◌, sym, ap, ap₂, ◌∙◌}
 use mathlib.Core.Logic.{◌⊎◌, inl, inr}
-use mathlib.Core.Bool.{Bool, true, false, cond, ◌&&◌, ◌||◌}
+use mathlib.Core.Bool.{true, false, cond, ◌&&◌}
 use mathlib.Core.List.{List}
 use lib.Dec.{eqb, ltb}
 use borrow.Author.Tests.{le-ltb, lt-ltb, ltb-false, ltb-true}
 use Rattle.ctl.specs.Evaluator.{leads}
-use Rattle.ctl.specs.Lists.{any_of, below}
 use Rattle.ctl.specs.Modes.{has_mode}
 use Rattle.ctl.specs.Snapshot.{follows, step}
-use Rattle.ctl.proofs.BoolLaws.{and_both, and-make, decide, false_of, or_cases, or_left, or_right, same_test, true-and-false}
+use Rattle.ctl.proofs.BoolLaws.{and_both, and-make, decide, or_cases, or_left, or_right, same_test}
 use Rattle.ctl.proofs.EvaluatorLaws.{modes-iff}
 use Rattle.ctl.proofs.ListLaws.{any-find, any-make}
 use Rattle.snapshot_text.specs.Store.{entry_at, of_store}
 use Rattle.edges.specs.Nodes.{by_mode, field_leads, leads_at}
-
--- ---- one mode, one field, all fields
-
-pub by-no : (out : List ℕ) (A m f i j : ℕ) → has_mode A m ≡ false → false ≡ by_mode out A m f i j
-by-no out A m f i j e = sym (ap (λ b. b && eqb (entry_at out i f) (j + 1)) e)
-
-pub by-yes : (out : List ℕ) (A m f i j v : ℕ) → has_mode A m ≡ true → v ≡ entry_at out i f → eqb v (j + 1) ≡ by_mode out A m f i j
-by-yes out A m f i j v e g = ap (λ x. eqb x (j + 1)) g ∙ sym (ap (λ b. b && eqb (entry_at out i f) (j + 1)) e)
-
-pub field-yes : (out : List ℕ) (A i j f : ℕ) → by_mode out A f f i j ≡ true → true ≡ field_leads out A i j f
-unfolding field_leads
-field-yes out A i j f e = sym (ap (λ b. b || by_mode out A (f + 8) f j i) e)
-
-pub field-other : (out : List ℕ) (A i j f : ℕ) (b : Bool) → by_mode out A f f i j ≡ false → b ≡ by_mode out A (f + 8) f j i → b ≡ field_leads out A i j f
-unfolding field_leads
-field-other out A i j f b e g = g ∙ sym (ap (λ b. b || by_mode out A (f + 8) f j i) e)
-
-pub leads-yes : (out : List ℕ) (A i j f : ℕ) → f < 8 → field_leads out A i j f ≡ true → true ≡ leads_at out A i j
-unfolding leads_at
-leads-yes out A i j f h e = sym (any-make 8 (field_leads out A i j) f h e)
-
-pub leads-no : (out : List ℕ) (A i j f : ℕ) → 8 ≤ f → ((g : ℕ) → g < f → field_leads out A i j g ≡ false) → false ≡ leads_at out A i j
-unfolding leads_at
-leads-no out A i j f h e =
-    sym (false_of (any_of (field_leads out A i j) (below 8)) (λ t.
-    let r = any-find 8 (field_leads out A i j) t in
-    true-and-false (field_leads out A i j r.0) r.2 (e r.0 (let k = r.1 in omega arith))))
 
 -- ---- edges of the snapshot
 

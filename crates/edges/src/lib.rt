@@ -11,22 +11,16 @@ ghost use Rattle.edges.specs.Nodes.{by_mode, field_leads, leads_at, next_word, o
 use crate::nodes::add_if;
 use members::parts::has_mode;
 
-// A byte as a number.
-fn wide(x: u8) -> usize
-    ensures { result ≡ x }
-{
-    x as usize
-}
-
 // The entry of symbol k at node i. A member's word may hold any number as a symbol; the store has room for 8.
 fn entry(out: &[u8], i: usize, k: usize) -> usize
     requires { i * 8 + 8 ≤ length out.now }
     ensures { result ≡ entry_at out.now i k }
 {
     if k < 8 {
-        return wide(out[i * 8 + k]);
+        usize::from(out[i * 8 + k])
+    } else {
+        0
     }
-    0
 }
 
 // The nodes that symbol k is on.
@@ -35,10 +29,8 @@ pub fn on(out: &[u8], n: usize, k: usize) -> u64
     ensures { result ≡ on_word out.now n k }
 {
     let mut x = 0;
-    let mut i = 0;
-    while i < n {
+    for i in 0..n {
         x = add_if(x, i, entry(out, i, k) == 1);
-        i += 1;
     }
     x
 }
@@ -48,10 +40,7 @@ fn leads_by(out: &[u8], modes: u64, m: usize, f: usize, i: usize, j: usize) -> b
     requires { (m < 16) × ((i * 8 + 8 ≤ length out.now) × (j < 16)) }
     ensures { result ≡ by_mode out.now modes m f i j }
 {
-    if !has_mode(modes, m) {
-        return false;
-    }
-    entry(out, i, f) == j + 1
+    has_mode(modes, m) && entry(out, i, f) == j + 1
 }
 
 // Whether a mode over field f leads from i to j: forward, or backward from j's entry.
@@ -59,10 +48,7 @@ fn field_leads(out: &[u8], modes: u64, i: usize, j: usize, f: usize) -> bool
     requires { (f < 8) × ((i * 8 + 8 ≤ length out.now) × ((j * 8 + 8 ≤ length out.now) × ((i < 16) × (j < 16)))) }
     ensures { result ≡ field_leads out.now modes i j f }
 {
-    if leads_by(out, modes, f, f, i, j) {
-        return true;
-    }
-    leads_by(out, modes, f + 8, f, j, i)
+    leads_by(out, modes, f, f, i, j) || leads_by(out, modes, f + 8, f, j, i)
 }
 
 // Whether one of the modes leads from i to j.
@@ -70,14 +56,7 @@ fn leads(out: &[u8], modes: u64, i: usize, j: usize) -> bool
     requires { (i * 8 + 8 ≤ length out.now) × ((j * 8 + 8 ≤ length out.now) × ((i < 16) × (j < 16))) }
     ensures { result ≡ leads_at out.now modes i j }
 {
-    let mut f = 0;
-    while f < 8 {
-        if field_leads(out, modes, i, j, f) {
-            return true;
-        }
-        f += 1;
-    }
-    false
+    (0..8).any(|f| field_leads(out, modes, i, j, f))
 }
 
 // The nodes to which the modes lead from i.
@@ -86,10 +65,8 @@ fn next(out: &[u8], n: usize, modes: u64, i: usize) -> u64
     ensures { result ≡ next_word out.now n modes i }
 {
     let mut x = 0;
-    let mut j = 0;
-    while j < n {
+    for j in 0..n {
         x = add_if(x, j, leads(out, modes, i, j));
-        j += 1;
     }
     x
 }
@@ -99,9 +76,7 @@ pub fn edge_words(out: &[u8], n: usize, modes: u64, e: &mut [u64])
     requires { (n ≤ 16) × ((n * 8 ≤ length out.now) × (n ≤ length e.old)) }
     ensures { e.new ≡ filled n (next_word out.now n modes) e.old }
 {
-    let mut i = 0;
-    while i < n {
+    for i in 0..n {
         e[i] = next(out, n, modes, i);
-        i += 1;
     }
 }

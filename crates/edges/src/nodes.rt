@@ -17,10 +17,7 @@ pub fn add_if(x: u64, i: usize, on: bool) -> u64
     requires { (x < 2 ^ i) × (i < 16) }
     ensures { result ≡ x + one on * 2 ^ i }
 {
-    if on {
-        return x + (1 << i);
-    }
-    x
+    if on { x + (1 << i) } else { x }
 }
 
 // All nodes.
@@ -43,5 +40,5 @@ pub fn flip(n: usize, x: u64) -> u64
 pub fn set_at(sets: &[u64], i: usize) -> u64
     ensures { result ≡ get_or sets.now i 0 }
 {
-    if i < sets.len() { sets[i] } else { 0 }
+    sets.get(i).copied().unwrap_or(0)
 }

@@ -5,7 +5,7 @@ use native.Mathlib.Numerals.{add-one}
 use native.Mathlib.Nat.{lt_of_le_of_lt}
 use native.Mathlib.Decide.{dec_le}
 use mathlib.Core.Path.{◌≡◌, sym, ap, ap₂, ◌∙◌}
-use mathlib.Core.Bool.{Bool, true, false, cond, ◌&&◌}
+use mathlib.Core.Bool.{Bool, cond, ◌&&◌}
 use mathlib.Core.List.{List, ◌++◌, map}
 use lib.Bits.{bit_and, and_le_l}
 use lib.ListN.{length, get_or, drop, length-append, length-drop, get_or-append}
@@ -24,10 +24,6 @@ use Rattle.edges.specs.Nodes.{full_word}
 use Rattle.evaluator.specs.Values.{all_word, cell_by}
 use Rattle.evaluator.specs.Rows.{cell_of, row_of}
 use Rattle.evaluator.proofs.RowMeaning.{row_at, row-length}
-
-pub cond-le : (r v : ℕ) (b : Bool) → r ≡ cond b v 0 → r ≤ v
-cond-le r v true e = omega arith
-cond-le r v false e = omega arith
 
 -- ---- the nodes that are in several sets
 

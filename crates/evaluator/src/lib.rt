@@ -21,22 +21,10 @@ fn all_of(sets: &[u64], members: &[usize], n: usize) -> u64
     ensures { result ≡ all_word sets.now members.now n }
 {
     let mut x = full(n);
-    let mut k = 0;
-    while k < members.len() {
-        x = x & set_at(sets, members[k]);
-        k += 1;
+    for &m in members {
+        x &= set_at(sets, m);
     }
     x
-}
-
-// v if on is true, else 0.
-fn part(on: bool, v: u8) -> u8
-    ensures { result ≡ cond on v 0 }
-{
-    if on {
-        return v;
-    }
-    0
 }
 
 // The byte of node i: 1 if it is in the goal's set, plus 2 if it is in the globals'.
@@ -44,7 +32,7 @@ fn cell(goal: u64, globals: u64, i: usize) -> u8
     requires { i < 64 }
     ensures { result ≡ cell_by goal globals i }
 {
-    part(has(goal, i), 1) + part(has(globals, i), 2)
+    u8::from(has(goal, i)) + 2 * u8::from(has(globals, i))
 }
 
 // The bytes of all nodes.
@@ -52,10 +40,8 @@ fn cells(goal: u64, globals: u64, n: usize, row: &mut [u8])
     requires { (n ≤ 16) × (n ≤ length row.old) }
     ensures { row.new ≡ filled n (cell_by goal globals) row.old }
 {
-    let mut i = 0;
-    while i < n {
+    for i in 0..n {
         row[i] = cell(goal, globals, i);
-        i += 1;
     }
 }
 

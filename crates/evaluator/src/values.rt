@@ -13,26 +13,19 @@ use edges::{edge_words, on};
 use members::parts::{arg, left, right, tag};
 
 // A member without modes, from its tag, its symbol k and its operands' nodes.
+#[tactic(auto, unfolding(crate::specs::Values::plain_word))]
 fn plain(out: &[u8], n: usize, tag: u64, k: usize, p: u64, q: u64) -> u64
     requires { (n ≤ 16) × (n * 8 ≤ length out.now) }
     ensures { result ≡ plain_word out.now n tag k p q }
 {
-    if tag == 0 {
-        return full(n);
+    match tag {
+        0 => full(n),
+        1 => 0,
+        2 => on(out, n, k),
+        3 => flip(n, on(out, n, k)),
+        4 => p & q,
+        _ => p | q,
     }
-    if tag == 1 {
-        return 0;
-    }
-    if tag == 2 {
-        return on(out, n, k);
-    }
-    if tag == 3 {
-        return flip(n, on(out, n, k));
-    }
-    if tag == 4 {
-        return p & q;
-    }
-    p | q
 }
 
 // A member, from its word and its operands' nodes.
@@ -55,12 +48,9 @@ pub fn evaluate(out: &[u8], n: usize, ws: &[u64], sets: &mut [u64])
     requires { ((n ≤ 16) × (n * 8 ≤ length out.now)) × ((length ws.now ≤ length sets.old) × Table ws.now) }
     ensures { sets.new ≡ filled (length ws.now) (λ k. word_of n (sat (of_store n out.now) (form ws.now k))) sets.old }
 {
-    let mut i = 0;
-    while i < ws.len() {
-        let w = ws[i];
+    for (i, &w) in ws.iter().enumerate() {
         let p = set_at(sets, left(w));
         let q = set_at(sets, right(w));
         sets[i] = member(out, n, w, p, q);
-        i += 1;
     }
 }

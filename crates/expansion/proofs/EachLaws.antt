@@ -3,7 +3,7 @@ use mathlib.Core.Path.{◌≡◌, refl, sym, ap, ap₂, ◌∙◌, subst}
 use mathlib.Core.Bool.{Bool, true, false}
 use mathlib.Core.List.Memᴰ
 use mathlib.Core.List.{List, [], ◌∷◌, ◌++◌}
-use Prim.Native.Nat.{ℕ, ◌+◌, ◌-◌, ◌/◌, ◌%◌, ◌^◌, ◌<◌}
+use Prim.Native.Nat.{ℕ, ◌+◌, ◌-◌, ◌/◌, ◌%◌, ◌^◌, ◌≤◌, ◌<◌}
 use native.Mathlib.Omega.{arith}
 use lib.ListN.{length, get_or, take}
 use Rattle.ctl.specs.Lists.{◌∈◌}
@@ -15,9 +15,9 @@ use Rattle.expansion.specs.Operators.{next_form, join_form, unit_form, join_all,
 use Rattle.members.specs.ModeLists.{modes_from}
 use Rattle.members.proofs.StepLaws.{sub-cons, sub-one, sub-both, answer-is, answer-same, answer-then, done-then, done_at, ready-then, full-then, full-more, was-full, sub-eq, first-full, rest-full, rest-still}
 use Rattle.expansion.proofs.NextLaws.{spine-one, all_one, spine-more, all_more, next-spine}
-use Rattle.members.proofs.ModeListLaws.{modes-skip, modes-put, modes-none, modes-some, half-below}
+use Rattle.members.proofs.ModeListLaws.{modes-skip, modes-put, modes-none, modes-some, mode-below, half-below}
 use Rattle.members.specs.declared.Added.{Added}
-use Rattle.members.specs.declared.Added.TheVariants.{At, Full}
+use Rattle.std.proofs.Common.{Option, Some, None}
 
 -- ---- the members of a list of three groups
 
@@ -28,24 +28,38 @@ pub in-second : {p q : Form} {l : List Form} → p ∈ q ∷ (p ∷ l)
 in-second = Memᴰ.tail (Memᴰ.head refl)
 
 module _ (tab : List ℕ) (n : ℕ) (b : Bool) (m rest : ℕ) (p : Form) where
-  abbrev Want : List ℕ → Added → Type 0
+  abbrev Want : List ℕ → Option Added → Type 0
   Want tab' a = Answer tab n tab' (join_spine b (each_of b (modes_from m rest) p)) (join_all b (each_of b (modes_from m rest) p)) a
 
   abbrev later : List Form
   later = each_of b (modes_from (m + 1) (rest / 2)) p
 
-  pub each-skip : {tab' : List ℕ} {a : Added} → m < 16 → rest % 2 ≡ 0 → Answer tab n tab' (join_spine b later) (join_all b later) a → Want tab' a
-  each-skip {tab'} {a} h e w = subst (λ ms. Answer tab n tab' (join_spine b (each_of b ms p)) (join_all b (each_of b ms p)) a) (sym (modes-skip m rest h e)) w
+  -- rest has the bits of modes from m on, and one of them
+  abbrev Some_left : Type 0
+  Some_left = (m ≤ 16) × ((0 < rest) × (rest < 2 ^ (16 - m)))
 
-  pub each_last : {tab' : List ℕ} {a : Added} (B : ℕ) → m < 16 → rest ≡ 1 → B ≡ 2 ^ m → Answer tab n tab' (next_form b B p ∷ []) (next_form b B p) a → Want tab' a
-  each_last {tab'} {a} B h e i w =
+  pub each-skip : {tab' : List ℕ} {a : Option Added} → Some_left → rest % 2 ≡ 0 → Answer tab n tab' (join_spine b later) (join_all b later) a → Want tab' a
+  each-skip {tab'} {a} h e w = subst (λ ms. Answer tab n tab' (join_spine b (each_of b ms p)) (join_all b (each_of b ms p)) a) (sym (modes-skip m rest (mode-below m rest h.0 h.1.0 h.1.1) e)) w
+
+  pub each_last : {tab' : List ℕ} {a : Option Added} (B : ℕ) → Some_left → rest ≡ 1 → B ≡ 2 ^ m → Answer tab n tab' (next_form b B p ∷ []) (next_form b B p) a → Want tab' a
+  each_last {tab'} {a} B x e i w =
+      let h = mode-below m rest x.0 x.1.0 x.1.1 in
       let ms : modes_from m rest ≡ m ∷ [] = modes-put m rest h (omega arith) ∙ ap (λ l. m ∷ l) (modes-none (m + 1) (rest / 2) (omega arith)) in
       let f = next_form b (2 ^ m) p in
       let w' = answer-is (ap (λ x. next_form b x p) i) w in
       subst (λ ms. Answer tab n tab' (join_spine b (each_of b ms p)) (join_all b (each_of b ms p)) a) (sym ms)
       (subst (λ l. Answer tab n tab' l (join_all b (f ∷ [])) a) (sym (spine-one b f)) (subst (λ x. Answer tab n tab' (f ∷ []) x a) (sym (all_one b f)) w'))
 
-  module _ (h : m < 16) (odd : rest % 2 ≡ 1) (more : 1 < rest) (small : rest < 2 ^ (16 - m)) where
+  module _ (x : Some_left) (not-even : rest % 2 ≡ 0 → ⊥) (not-one : rest ≡ 1 → ⊥) where
+    h : m < 16
+    h = mode-below m rest x.0 x.1.0 x.1.1
+
+    odd : rest % 2 ≡ 1
+    odd = omega arith
+
+    more : 1 < rest
+    more = let k = x.1.0 in omega arith
+
     abbrev F : Form
     F = next_form b (2 ^ m) p
 
@@ -57,22 +71,22 @@ module _ (tab : List ℕ) (n : ℕ) (b : Bool) (m rest : ℕ) (p : Form) where
 
     spine-is : join_spine b (each_of b (modes_from m rest) p) ≡ join_form b F J ∷ (F ∷ S)
     spine-is =
-        let s = modes-some (m + 1) (rest / 2) (omega arith) (half-below m rest h small) in
+        let s = modes-some (m + 1) (rest / 2) (omega (arith, more)) (half-below m rest h x.1.1) in
         let e : each_of b (modes_from (m + 1) (rest / 2)) p ≡ each_of b (s.0 ∷ s.1) p = ap (λ ms. each_of b ms p) s.2 in
         ap (λ ms. join_spine b (each_of b ms p)) (modes-put m rest h odd ∙ ap (λ l. m ∷ l) s.2) ∙ spine-more b F (next_form b (2 ^ s.0) p) (each_of b s.1 p)
         ∙ sym (ap (λ l. join_form b F (join_all b l) ∷ (F ∷ join_spine b l)) e)
 
     all-is : join_all b (each_of b (modes_from m rest) p) ≡ join_form b F J
     all-is =
-        let s = modes-some (m + 1) (rest / 2) (omega arith) (half-below m rest h small) in
+        let s = modes-some (m + 1) (rest / 2) (omega (arith, more)) (half-below m rest h x.1.1) in
         let e : each_of b (modes_from (m + 1) (rest / 2)) p ≡ each_of b (s.0 ∷ s.1) p = ap (λ ms. each_of b ms p) s.2 in
         ap (λ ms. join_all b (each_of b ms p)) (modes-put m rest h odd ∙ ap (λ l. m ∷ l) s.2) ∙ all_more b F (next_form b (2 ^ s.0) p) (each_of b s.1 p)
         ∙ sym (ap (λ l. join_form b F (join_all b l)) e)
 
-    wanted : {tab' : List ℕ} {a : Added} → Answer tab n tab' (join_form b F J ∷ (F ∷ S)) (join_form b F J) a → Want tab' a
+    wanted : {tab' : List ℕ} {a : Option Added} → Answer tab n tab' (join_form b F J ∷ (F ∷ S)) (join_form b F J) a → Want tab' a
     wanted {tab'} {a} w = subst (λ l. Answer tab n tab' l (join_all b (each_of b (modes_from m rest) p)) a) (sym spine-is) (subst (λ f. Answer tab n tab' (join_form b F J ∷ (F ∷ S)) f a) (sym all-is) w)
 
-    pub each-full : {tab' : List ℕ} {tab'' : List ℕ} {a : Added} → Answer tab n tab' S J a → a ≡ Full → Want tab'' Full
+    pub each-full : {tab' : List ℕ} {tab'' : List ℕ} {a : Option Added} → Answer tab n tab' S J a → a ≡ None → Want tab'' None
     each-full w e = wanted (full-more S (λ q i. Memᴰ.tail (Memᴰ.tail i)) (was-full w e))
 
     module _ (r : Ready tab n) {tab₁ : List ℕ} {i₁ n₁ : ℕ} (d : Done tab n tab₁ S J i₁ n₁) (same : length tab₁ ≡ length tab)
@@ -80,14 +94,14 @@ module _ (tab : List ℕ) (n : ℕ) (b : Bool) (m rest : ℕ) (p : Form) where
       F-is : next_form b B (get_or (forms (take n₁ tab₁)) body tru) ≡ F
       F-is = ap₂ (λ x y. next_form b x y) bit (done_at r d same body inside ∙ sym p-is)
 
-      pub each-full-2 : {tab₂ tab' : List ℕ} {a : Added} → Answer tab₁ n₁ tab₂ (next_form b B (get_or (forms (take n₁ tab₁)) body tru) ∷ []) (next_form b B (get_or (forms (take n₁ tab₁)) body tru)) a → a ≡ Full → Want tab' Full
+      pub each-full-2 : {tab₂ tab' : List ℕ} {a : Option Added} → Answer tab₁ n₁ tab₂ (next_form b B (get_or (forms (take n₁ tab₁)) body tru) ∷ []) (next_form b B (get_or (forms (take n₁ tab₁)) body tru)) a → a ≡ None → Want tab' None
       each-full-2 w e = wanted (full-more (S ++ (F ∷ [])) (sub-both (λ q i. Memᴰ.tail (Memᴰ.tail i)) (sub-one in-second)) (full-then r d same (F ∷ []) (was-full (answer-is F-is w) e)))
 
       module _ {tab₂ : List ℕ} {i₂ n₂ : ℕ} (d₂ : Done tab₁ n₁ tab₂ (next_form b B (get_or (forms (take n₁ tab₁)) body tru) ∷ []) (next_form b B (get_or (forms (take n₁ tab₁)) body tru)) i₂ n₂) (same₂ : length tab₂ ≡ length tab₁) where
         X-is : join_form b (get_or (forms (take n₂ tab₂)) i₂ tru) (get_or (forms (take n₂ tab₂)) i₁ tru) ≡ join_form b F J
         X-is = ap₂ (λ x y. join_form b x y) (d₂.is ∙ F-is) (done_at (ready-then r d same) d₂ same₂ i₁ d.below ∙ d.is)
 
-        pub each-join : {tab' : List ℕ} {a : Added} → Answer tab₂ n₂ tab' (join_form b (get_or (forms (take n₂ tab₂)) i₂ tru) (get_or (forms (take n₂ tab₂)) i₁ tru) ∷ []) (join_form b (get_or (forms (take n₂ tab₂)) i₂ tru) (get_or (forms (take n₂ tab₂)) i₁ tru)) a → Want tab' a
+        pub each-join : {tab' : List ℕ} {a : Option Added} → Answer tab₂ n₂ tab' (join_form b (get_or (forms (take n₂ tab₂)) i₂ tru) (get_or (forms (take n₂ tab₂)) i₁ tru) ∷ []) (join_form b (get_or (forms (take n₂ tab₂)) i₂ tru) (get_or (forms (take n₂ tab₂)) i₁ tru)) a → Want tab' a
         each-join {tab'} {a} w =
             let X = join_form b F J in
             wanted (answer-same {l = (S ++ (F ∷ [])) ++ (X ∷ [])}
@@ -102,7 +116,7 @@ unit-spine true = refl
 unit-spine false = refl
 
 module _ {tab : List ℕ} {n : ℕ} (b : Bool) (A : ℕ) (p : Form) where
-  pub next-full : {tab₁ tab' : List ℕ} {a : Added} → Answer tab n tab₁ (next_form b A p ∷ []) (next_form b A p) a → a ≡ Full → Answer tab n tab' (next_spine b A p) (next_form b A p) Full
+  pub next-full : {tab₁ tab' : List ℕ} {a : Option Added} → Answer tab n tab₁ (next_form b A p ∷ []) (next_form b A p) a → a ≡ None → Answer tab n tab' (next_spine b A p) (next_form b A p) None
   next-full w e = first-full (sub-one (sub-eq (sym (next-spine b A p)) (next_form b A p) in_head)) w e
 
 module _ {tab : List ℕ} {n : ℕ} (b : Bool) (A : ℕ) (body : ℕ) (inside : body < n) {tab₁ : List ℕ} {i₁ n₁ : ℕ} (r : Ready tab n)
@@ -114,10 +128,10 @@ module _ {tab : List ℕ} {n : ℕ} (b : Bool) (A : ℕ) (body : ℕ) (inside : 
     none_is : (next_form b A p ∷ []) ++ (unit_form b ∷ []) ≡ next_spine b A p
     none_is = ap (λ l. next_form b A p ∷ l) (sym (ap (λ ms. join_spine b (each_of b ms p)) (modes-none 0 A none) ∙ unit-spine b)) ∙ sym (next-spine b A p)
 
-    pub next-none-full : {tab₂ tab' : List ℕ} {a : Added} → Answer tab₁ n₁ tab₂ (unit_form b ∷ []) (unit_form b) a → a ≡ Full → Answer tab n tab' (next_spine b A p) (next_form b A p) Full
+    pub next-none-full : {tab₂ tab' : List ℕ} {a : Option Added} → Answer tab₁ n₁ tab₂ (unit_form b ∷ []) (unit_form b) a → a ≡ None → Answer tab n tab' (next_spine b A p) (next_form b A p) None
     next-none-full w e = rest-full r d same (sub-eq none_is) w e
 
-    pub next-none : {tab₂ : List ℕ} {a : Added} {j m : ℕ} → Answer tab₁ n₁ tab₂ (unit_form b ∷ []) (unit_form b) a → a ≡ At j m → Answer tab n tab₂ (next_spine b A p) (next_form b A p) (At i₁ m)
+    pub next-none : {tab₂ : List ℕ} {a : Option Added} {s : Added} → Answer tab₁ n₁ tab₂ (unit_form b ∷ []) (unit_form b) a → a ≡ Some s → Answer tab n tab₂ (next_spine b A p) (next_form b A p) (Some (record { index = i₁; count = s.count }))
     next-none w e = rest-still r d same (sub-eq none_is) (sub-eq (sym none_is)) w e
 
   abbrev p₁ : Form
@@ -126,8 +140,8 @@ module _ {tab : List ℕ} {n : ℕ} (b : Bool) (A : ℕ) (body : ℕ) (inside : 
   some_is : (next_form b A p ∷ []) ++ join_spine b (each_of b (modes_from 0 A) p₁) ≡ next_spine b A p
   some_is = ap (λ q. next_form b A p ∷ join_spine b (each_of b (modes_from 0 A) q)) (done_at r d same body inside) ∙ sym (next-spine b A p)
 
-  pub next-some-full : {tab₂ tab' : List ℕ} {a : Added} → Answer tab₁ n₁ tab₂ (join_spine b (each_of b (modes_from 0 A) p₁)) (join_all b (each_of b (modes_from 0 A) p₁)) a → a ≡ Full → Answer tab n tab' (next_spine b A p) (next_form b A p) Full
+  pub next-some-full : {tab₂ tab' : List ℕ} {a : Option Added} → Answer tab₁ n₁ tab₂ (join_spine b (each_of b (modes_from 0 A) p₁)) (join_all b (each_of b (modes_from 0 A) p₁)) a → a ≡ None → Answer tab n tab' (next_spine b A p) (next_form b A p) None
   next-some-full w e = rest-full r d same (sub-eq some_is) w e
 
-  pub next-some : {tab₂ : List ℕ} {a : Added} {j m : ℕ} → Answer tab₁ n₁ tab₂ (join_spine b (each_of b (modes_from 0 A) p₁)) (join_all b (each_of b (modes_from 0 A) p₁)) a → a ≡ At j m → Answer tab n tab₂ (next_spine b A p) (next_form b A p) (At i₁ m)
+  pub next-some : {tab₂ : List ℕ} {a : Option Added} {s : Added} → Answer tab₁ n₁ tab₂ (join_spine b (each_of b (modes_from 0 A) p₁)) (join_all b (each_of b (modes_from 0 A) p₁)) a → a ≡ Some s → Answer tab n tab₂ (next_spine b A p) (next_form b A p) (Some (record { index = i₁; count = s.count }))
   next-some w e = rest-still r d same (sub-eq some_is) (sub-eq (sym some_is)) w e

@@ -1,14 +1,12 @@
 -- EX or AX with their expansions, told apart by a Boolean: true for EX, false for AX. Assumes nothing.
-use mathlib.Core.Path.{◌≡◌, refl, sym, ap, ◌∙◌, subst}
+use mathlib.Core.Path.{◌≡◌, refl, sym, ap, subst}
 use mathlib.Core.Bool.{Bool, true, false}
 use mathlib.Core.List.{List, [], ◌∷◌, map}
 use Prim.Native.Nat.{ℕ, ◌^◌, ◌<◌}
 use native.Mathlib.Omega.{arith}
 use Rattle.ctl.specs.Formula.{Form, ex, ax}
 use Rattle.ctl.specs.Closure.{or_spine, and_spine, ex_spine, ax_spine}
-use Rattle.members.specs.Grown.{Ready, Answer}
-use Rattle.members.specs.declared.Added.{Added}
-use Rattle.members.proofs.StepLaws.{answer-is}
+use Rattle.members.specs.Grown.{Ready}
 use Rattle.members.specs.Members.{form_by, Canon, c-tru, c-fls, c-and, c-or, c-ex, c-ax, word_of}
 use Rattle.members.proofs.ModeListLaws.{modes-from}
 use Rattle.expansion.specs.Operators.{each_of, join_all, join_form, join_spine, join_tag, next_form, next_spine, next_tag, unit_form, unit_tag}
@@ -83,14 +81,3 @@ module _ {tab : List ℕ} {n : ℕ} (r : Ready tab n) where
     where
       small : t < 16
       small = subst (λ x. x < 16) (sym e) (elim b as (λ c. unit_tag c < 16) [ true ↦ omega arith | false ↦ omega arith ])
-
--- the member that a word of such a tag stands for
-module _ {tab : List ℕ} {n : ℕ} {tab' : List ℕ} {a : Added} (b : Bool) (t : ℕ) where
-  pub next-made : (A : ℕ) (p q : Form) → t ≡ next_tag b → Answer tab n tab' (form_by t A p q ∷ []) (form_by t A p q) a → Answer tab n tab' (next_form b A p ∷ []) (next_form b A p) a
-  next-made A p q e w = answer-is (ap (λ t. form_by t A p q) e ∙ form-next b A p q) w
-
-  pub join-made : (p q : Form) → t ≡ join_tag b → Answer tab n tab' (form_by t 0 p q ∷ []) (form_by t 0 p q) a → Answer tab n tab' (join_form b p q ∷ []) (join_form b p q) a
-  join-made p q e w = answer-is (ap (λ t. form_by t 0 p q) e ∙ form-join b p q) w
-
-  pub unit-made : (p q : Form) → t ≡ unit_tag b → Answer tab n tab' (form_by t 0 p q ∷ []) (form_by t 0 p q) a → Answer tab n tab' (unit_form b ∷ []) (unit_form b) a
-  unit-made p q e w = answer-is (ap (λ t. form_by t 0 p q) e ∙ form-unit b p q) w

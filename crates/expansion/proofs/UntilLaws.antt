@@ -11,10 +11,10 @@ use Rattle.ctl.specs.Closure.{spine}
 use Rattle.members.specs.Members.{forms, form_by, word_of, Canon, c-eu, c-au, c-er, c-ar}
 use Rattle.members.specs.Grown.{Ready, Done, Answer}
 use Rattle.expansion.specs.Operators.{next_form, join_form, unit_form, next_spine, plain_form, plain_tag, strong_form, strong_tag}
-use Rattle.members.proofs.StepLaws.{was-added, ◌⊆◌, sub-one, sub-cons, sub-both, answer-is, done_at, done-still, first-full, rest-full, rest-still}
+use Rattle.members.proofs.StepLaws.{was-added, ◌⊆◌, sub-one, sub-cons, sub-both, answer-is, done_at, done-still, first-full, rest-full, rest-still, step_then}
 use Rattle.expansion.proofs.EachLaws.{in_head, in-second}
 use Rattle.members.specs.declared.Added.{Added}
-use Rattle.members.specs.declared.Added.TheVariants.{At, Full}
+use Rattle.std.proofs.Common.{Option, Some, None}
 
 form-plain : (b : Bool) (A : ℕ) (p q : Form) → form_by (plain_tag b) A p q ≡ plain_form b A p q
 form-plain true A p q = refl
@@ -36,17 +36,20 @@ unfolding spine next_spine
 strong-spine true A p q = refl
 strong-spine false A p q = refl
 
-module _ {tab : List ℕ} {n : ℕ} (r : Ready tab n) {A l q : ℕ} (h : A < 65536) (hl : l < n) (hq : q < n) where
+module _ {tab : List ℕ} {n : ℕ} {A l q : ℕ} (asked : Ready tab n × ((A < 65536) × ((l < n) × (q < n)))) where
   canon-plain : (b : Bool) → Canon n (word_of (plain_tag b) A l q)
-  canon-plain true = c-eu h hl hq
-  canon-plain false = c-ar h hl hq
+  canon-plain true = c-eu asked.1.0 asked.1.1.0 asked.1.1.1
+  canon-plain false = c-ar asked.1.0 asked.1.1.0 asked.1.1.1
 
   canon-strong : (b : Bool) → Canon n (word_of (strong_tag b) A l q)
-  canon-strong true = c-au h hl hq
-  canon-strong false = c-er h hl hq
+  canon-strong true = c-au asked.1.0 asked.1.1.0 asked.1.1.1
+  canon-strong false = c-er asked.1.0 asked.1.1.0 asked.1.1.1
 
   asks : (t : ℕ) → t < 16 → Canon n (word_of t A l q) → Ready tab n × ((t < 16) × ((A < 65536) × ((l < 256) × ((q < 256) × Canon n (word_of t A l q)))))
-  asks t k c = (r, (k, (h, ((let a = r.room in let c = r.small in omega arith), ((let a = r.room in let c = r.small in omega arith), c)))))
+  asks t k c =
+      let a = asked.0.room in
+      let b = asked.0.small in
+      (asked.0, (k, (asked.1.0, (omega (arith, asked.1.1.0), (omega (arith, asked.1.1.1), c)))))
 
   pub asks-plain : (b : Bool) (t : ℕ) → t ≡ plain_tag b → Ready tab n × ((t < 16) × ((A < 65536) × ((l < 256) × ((q < 256) × Canon n (word_of t A l q)))))
   asks-plain b t e = asks t (subst (λ x. x < 16) (sym e) (elim b as (λ c. plain_tag c < 16) [ true ↦ omega arith | false ↦ omega arith ])) (subst (λ x. Canon n (word_of x A l q)) (sym e) (canon-plain b))
@@ -55,7 +58,7 @@ module _ {tab : List ℕ} {n : ℕ} (r : Ready tab n) {A l q : ℕ} (h : A < 655
   asks-strong b t e = asks t (subst (λ x. x < 16) (sym e) (elim b as (λ c. strong_tag c < 16) [ true ↦ omega arith | false ↦ omega arith ])) (subst (λ x. Canon n (word_of x A l q)) (sym e) (canon-strong b))
 
 -- the member that a word of such a tag stands for
-module _ {tab : List ℕ} {n : ℕ} {tab' : List ℕ} {a : Added} (b : Bool) (t A : ℕ) (p q : Form) where
+module _ {tab : List ℕ} {n : ℕ} {tab' : List ℕ} {a : Option Added} (b : Bool) (t A : ℕ) (p q : Form) where
   pub plain-made : t ≡ plain_tag b → Answer tab n tab' (form_by t A p q ∷ []) (form_by t A p q) a → Answer tab n tab' (plain_form b A p q ∷ []) (plain_form b A p q) a
   plain-made e w = answer-is (ap (λ t. form_by t A p q) e ∙ form-plain b A p q) w
 
@@ -64,7 +67,7 @@ module _ {tab : List ℕ} {n : ℕ} {tab' : List ℕ} {a : Added} (b : Bool) (t 
 
 -- ---- EU and AR: the steps of their expansions
 
-module _ (tab : List ℕ) (n : ℕ) (r : Ready tab n) (b : Bool) (A i j : ℕ) (hi : i < n) (hj : j < n) where
+module _ {tab : List ℕ} {n : ℕ} (b : Bool) {A i j : ℕ} (asked : Ready tab n × ((A < 65536) × ((i < n) × (j < n)))) where
   abbrev p : Form
   p = get_or (forms (take n tab)) i tru
 
@@ -86,51 +89,70 @@ module _ (tab : List ℕ) (n : ℕ) (r : Ready tab n) (b : Bool) (A i j : ℕ) (
   abbrev All : List Form
   All = S ∷ (Z ∷ (Y ∷ next_spine b A S))
 
-  abbrev Want : List ℕ → Added → Type 0
+  abbrev Want : List ℕ → Option Added → Type 0
   Want tab' a = Answer tab n tab' (spine S) S a
 
-  want : {tab' : List ℕ} {a : Added} → Answer tab n tab' All S a → Want tab' a
+  want : {tab' : List ℕ} {a : Option Added} → Answer tab n tab' All S a → Want tab' a
   want {tab'} {a} w = subst (λ l. Answer tab n tab' l S a) (sym (plain-spine b A p q)) w
 
   spine-in : (S ∷ next_spine b A S) ⊆ All
   spine-in = sub-cons in_head (λ x m. Memᴰ.tail (Memᴰ.tail (Memᴰ.tail m)))
 
-  module _ {tab₁ : List ℕ} {a₁ : Added} (w₁ : Answer tab n tab₁ (S ∷ []) S a₁) where
-    pub plain-full : {tab' : List ℕ} → a₁ ≡ Full → Want tab' Full
+  module _ {t : ℕ} (tag : t ≡ plain_tag b) {tab₁ : List ℕ} {a₁ : Option Added} (made : Answer tab n tab₁ (form_by t A p q ∷ []) (form_by t A p q) a₁) where
+    w₁ : Answer tab n tab₁ (S ∷ []) S a₁
+    w₁ = plain-made b t A p q tag made
+
+    pub plain-asks : {s₁ : Added} → a₁ ≡ Some s₁ → length tab₁ ≡ length tab → Ready tab₁ s₁.count × ((A < 65536) × (s₁.index < s₁.count))
+    plain-asks e k = let s = step_then asked.0 w₁ e k in (s.ready, (asked.1.0, s.below))
+
+    pub plain-full : {tab' : List ℕ} → a₁ ≡ None → Want tab' None
     plain-full e = want (first-full (sub-one in_head) w₁ e)
 
-    module _ {i₁ n₁ : ℕ} (e₁ : a₁ ≡ At i₁ n₁) (k₁ : length tab₁ ≡ length tab) {tab₂ : List ℕ} {a₂ : Added}
-        (w₂ : Answer tab₁ n₁ tab₂ (next_spine b A (get_or (forms (take n₁ tab₁)) i₁ tru)) (next_form b A (get_or (forms (take n₁ tab₁)) i₁ tru)) a₂) where
-      d₁ : Done tab n tab₁ (S ∷ []) S i₁ n₁
+    module _ {s₁ : Added} (e₁ : a₁ ≡ Some s₁) (k₁ : length tab₁ ≡ length tab) {tab₂ : List ℕ} {a₂ : Option Added}
+        (w₂ : Answer tab₁ s₁.count tab₂ (next_spine b A (get_or (forms (take s₁.count tab₁)) s₁.index tru)) (next_form b A (get_or (forms (take s₁.count tab₁)) s₁.index tru)) a₂) where
+      d₁ : Done tab n tab₁ (S ∷ []) S s₁.index s₁.count
       d₁ = was-added w₁ e₁
 
-      next-is : Answer tab₁ n₁ tab₂ (next_spine b A S) X a₂
-      next-is = subst (λ x. Answer tab₁ n₁ tab₂ (next_spine b A x) (next_form b A x) a₂) d₁.is w₂
+      next-is : Answer tab₁ s₁.count tab₂ (next_spine b A S) X a₂
+      next-is = subst (λ x. Answer tab₁ s₁.count tab₂ (next_spine b A x) (next_form b A x) a₂) d₁.is w₂
 
-      pub plain-full-2 : {tab' : List ℕ} → a₂ ≡ Full → Want tab' Full
-      plain-full-2 e = want (rest-full r d₁ k₁ spine-in next-is e)
+      pub plain-asks-2 : {s₂ : Added} → a₂ ≡ Some s₂ → length tab₂ ≡ length tab₁ → Ready tab₂ s₂.count × ((i < s₂.count) × (s₂.index < s₂.count))
+      plain-asks-2 e k =
+          let s = step_then asked.0 w₁ e₁ k₁ in
+          let t = step_then s.ready w₂ e k in
+          (t.ready, (omega (arith, s.up, t.up, asked.1.1.0), t.below))
 
-      module _ {i₂ n₂ : ℕ} (e₂ : a₂ ≡ At i₂ n₂) (k₂ : length tab₂ ≡ length tab₁) {tab₃ : List ℕ} {a₃ : Added}
-          (w₃ : Answer tab₂ n₂ tab₃ (join_form (not b) (get_or (forms (take n₂ tab₂)) i tru) (get_or (forms (take n₂ tab₂)) i₂ tru) ∷ []) (join_form (not b) (get_or (forms (take n₂ tab₂)) i tru) (get_or (forms (take n₂ tab₂)) i₂ tru)) a₃) where
-        d₂ : Done tab n tab₂ (S ∷ next_spine b A S) S i₁ n₂
-        d₂ = done-still r d₁ k₁ (was-added next-is e₂)
+      pub plain-full-2 : {tab' : List ℕ} → a₂ ≡ None → Want tab' None
+      plain-full-2 e = want (rest-full asked.0 d₁ k₁ spine-in next-is e)
 
-        both_is : Answer tab₂ n₂ tab₃ (Y ∷ []) Y a₃
-        both_is = answer-is (ap₂ (λ x y. join_form (not b) x y) (done_at r d₂ (k₂ ∙ k₁) i hi) (was-added next-is e₂).is) w₃
+      module _ {s₂ : Added} (e₂ : a₂ ≡ Some s₂) (k₂ : length tab₂ ≡ length tab₁) {tab₃ : List ℕ} {a₃ : Option Added}
+          (w₃ : Answer tab₂ s₂.count tab₃ (join_form (not b) (get_or (forms (take s₂.count tab₂)) i tru) (get_or (forms (take s₂.count tab₂)) s₂.index tru) ∷ []) (join_form (not b) (get_or (forms (take s₂.count tab₂)) i tru) (get_or (forms (take s₂.count tab₂)) s₂.index tru)) a₃) where
+        d₂ : Done tab n tab₂ (S ∷ next_spine b A S) S s₁.index s₂.count
+        d₂ = done-still asked.0 d₁ k₁ (was-added next-is e₂)
+
+        both_is : Answer tab₂ s₂.count tab₃ (Y ∷ []) Y a₃
+        both_is = answer-is (ap₂ (λ x y. join_form (not b) x y) (done_at asked.0 d₂ (k₂ ∙ k₁) i asked.1.1.0) (was-added next-is e₂).is) w₃
 
         both-in : (S ∷ next_spine b A S) ++ (Y ∷ []) ⊆ All
         both-in = sub-both {j = S ∷ next_spine b A S} spine-in (sub-one (Memᴰ.tail in-second))
 
-        pub plain-full-3 : {tab' : List ℕ} → a₃ ≡ Full → Want tab' Full
-        plain-full-3 e = want (rest-full r d₂ (k₂ ∙ k₁) both-in both_is e)
+        pub plain-asks-3 : {s₃ : Added} → a₃ ≡ Some s₃ → length tab₃ ≡ length tab₂ → Ready tab₃ s₃.count × ((j < s₃.count) × (s₃.index < s₃.count))
+        plain-asks-3 e k =
+            let s = step_then asked.0 w₁ e₁ k₁ in
+            let t = step_then s.ready w₂ e₂ k₂ in
+            let u = step_then t.ready w₃ e k in
+            (u.ready, (omega (arith, s.up, t.up, u.up, asked.1.1.1), u.below))
 
-        module _ {i₃ n₃ : ℕ} (e₃ : a₃ ≡ At i₃ n₃) (k₃ : length tab₃ ≡ length tab₂) {tab₄ : List ℕ} {a₄ : Added}
-            (w₄ : Answer tab₃ n₃ tab₄ (join_form b (get_or (forms (take n₃ tab₃)) j tru) (get_or (forms (take n₃ tab₃)) i₃ tru) ∷ []) (join_form b (get_or (forms (take n₃ tab₃)) j tru) (get_or (forms (take n₃ tab₃)) i₃ tru)) a₄) where
-          d₃ : Done tab n tab₃ ((S ∷ next_spine b A S) ++ (Y ∷ [])) S i₁ n₃
-          d₃ = done-still r d₂ (k₂ ∙ k₁) (was-added both_is e₃)
+        pub plain-full-3 : {tab' : List ℕ} → a₃ ≡ None → Want tab' None
+        plain-full-3 e = want (rest-full asked.0 d₂ (k₂ ∙ k₁) both-in both_is e)
 
-          last-is : Answer tab₃ n₃ tab₄ (Z ∷ []) Z a₄
-          last-is = answer-is (ap₂ (λ x y. join_form b x y) (done_at r d₃ (k₃ ∙ k₂ ∙ k₁) j hj) (was-added both_is e₃).is) w₄
+        module _ {s₃ : Added} (e₃ : a₃ ≡ Some s₃) (k₃ : length tab₃ ≡ length tab₂) {tab₄ : List ℕ} {a₄ : Option Added}
+            (w₄ : Answer tab₃ s₃.count tab₄ (join_form b (get_or (forms (take s₃.count tab₃)) j tru) (get_or (forms (take s₃.count tab₃)) s₃.index tru) ∷ []) (join_form b (get_or (forms (take s₃.count tab₃)) j tru) (get_or (forms (take s₃.count tab₃)) s₃.index tru)) a₄) where
+          d₃ : Done tab n tab₃ ((S ∷ next_spine b A S) ++ (Y ∷ [])) S s₁.index s₃.count
+          d₃ = done-still asked.0 d₂ (k₂ ∙ k₁) (was-added both_is e₃)
+
+          last-is : Answer tab₃ s₃.count tab₄ (Z ∷ []) Z a₄
+          last-is = answer-is (ap₂ (λ x y. join_form b x y) (done_at asked.0 d₃ (k₃ ∙ k₂ ∙ k₁) j asked.1.1.1) (was-added both_is e₃).is) w₄
 
           inside : ((S ∷ next_spine b A S) ++ (Y ∷ [])) ++ (Z ∷ []) ⊆ All
           inside = sub-both {j = (S ∷ next_spine b A S) ++ (Y ∷ [])} both-in (sub-one in-second)
@@ -138,8 +160,8 @@ module _ (tab : List ℕ) (n : ℕ) (r : Ready tab n) (b : Bool) (A i j : ℕ) (
           outside : All ⊆ ((S ∷ next_spine b A S) ++ (Y ∷ [])) ++ (Z ∷ [])
           outside = sub-cons in_head (sub-cons (Memᴰ.append_right ((S ∷ next_spine b A S) ++ (Y ∷ [])) in_head) (sub-cons (Memᴰ.append_left (Z ∷ []) (Memᴰ.append_right (S ∷ next_spine b A S) in_head)) (λ x m. Memᴰ.append_left (Z ∷ []) (Memᴰ.append_left (Y ∷ []) (Memᴰ.tail m)))))
 
-          pub plain-full-4 : {tab' : List ℕ} → a₄ ≡ Full → Want tab' Full
-          plain-full-4 e = want (rest-full r d₃ (k₃ ∙ k₂ ∙ k₁) inside last-is e)
+          pub plain-full-4 : {tab' : List ℕ} → a₄ ≡ None → Want tab' None
+          plain-full-4 e = want (rest-full asked.0 d₃ (k₃ ∙ k₂ ∙ k₁) inside last-is e)
 
-          pub plain-last : {i₄ n₄ : ℕ} → a₄ ≡ At i₄ n₄ → Want tab₄ (At i₁ n₄)
-          plain-last e = want (rest-still r d₃ (k₃ ∙ k₂ ∙ k₁) inside outside last-is e)
+          pub plain-last : {s₄ : Added} → a₄ ≡ Some s₄ → Want tab₄ (Some (record { index = s₁.index; count = s₄.count }))
+          plain-last e = want (rest-still asked.0 d₃ (k₃ ∙ k₂ ∙ k₁) inside outside last-is e)

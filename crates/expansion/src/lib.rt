@@ -31,7 +31,7 @@ fn unit_tag(some: bool) -> u64
 }
 
 // EX (AX where `some` is false) over a set of modes.
-fn next_one(tab: &mut [u64], n: usize, some: bool, mask: u64, body: usize) -> Added
+fn next_one(tab: &mut [u64], n: usize, some: bool, mask: u64, body: usize) -> Option<Added>
     requires { Ready tab.old n × ((mask < 65536) × (body < n)) }
     ensures { Answer tab.old n tab.new (next_form some mask (get_or (forms (take n tab.old)) body tru) ∷ []) (next_form some mask (get_or (forms (take n tab.old)) body tru)) result }
 {
@@ -39,7 +39,7 @@ fn next_one(tab: &mut [u64], n: usize, some: bool, mask: u64, body: usize) -> Ad
 }
 
 // Two members joined by `|` (by `&` where `some` is false).
-pub fn join(tab: &mut [u64], n: usize, some: bool, left: usize, right: usize) -> Added
+pub fn join(tab: &mut [u64], n: usize, some: bool, left: usize, right: usize) -> Option<Added>
     requires { Ready tab.old n × ((left < n) × (right < n)) }
     ensures { Answer tab.old n tab.new
         (join_form some (get_or (forms (take n tab.old)) left tru) (get_or (forms (take n tab.old)) right tru) ∷ [])
@@ -49,7 +49,7 @@ pub fn join(tab: &mut [u64], n: usize, some: bool, left: usize, right: usize) ->
 }
 
 // `0` (`1` where `some` is false): none joined.
-pub fn unit(tab: &mut [u64], n: usize, some: bool) -> Added
+pub fn unit(tab: &mut [u64], n: usize, some: bool) -> Option<Added>
     requires { Ready tab.old n }
     ensures { Answer tab.old n tab.new (unit_form some ∷ []) (unit_form some) result }
 {
@@ -57,7 +57,7 @@ pub fn unit(tab: &mut [u64], n: usize, some: bool) -> Added
 }
 
 // EX (AX) over each mode alone, joined: of the modes from m on, which are the bits of `rest`.
-fn each(tab: &mut [u64], n: usize, some: bool, rest: u64, m: u64, body: usize) -> Added
+fn each(tab: &mut [u64], n: usize, some: bool, rest: u64, m: u64, body: usize) -> Option<Added>
     requires { Ready tab.old n × ((body < n) × ((m ≤ 16) × ((0 < rest) × (rest < 2 ^ (16 - m))))) }
     ensures { Answer tab.old n tab.new
         (join_spine some (each_of some (modes_from m rest) (get_or (forms (take n tab.old)) body tru)))
@@ -69,60 +69,30 @@ fn each(tab: &mut [u64], n: usize, some: bool, rest: u64, m: u64, body: usize) -
     if rest == 1 {
         return next_one(tab, n, some, bit(m), body);
     }
-    let Added::At {
-        index: later,
-        count: more,
-    } = each(tab, n, some, rest / 2, m + 1, body)
-    else {
-        return Added::Full;
-    };
-    let Added::At {
-        index: first,
-        count: most,
-    } = next_one(tab, more, some, bit(m), body)
-    else {
-        return Added::Full;
-    };
-    join(tab, most, some, first, later)
+    let later = each(tab, n, some, rest / 2, m + 1, body)?;
+    let first = next_one(tab, later.count, some, bit(m), body)?;
+    join(tab, first.count, some, first.index, later.index)
 }
 
 // EX (AX) over a set of modes, with its expansion.
-pub fn next(tab: &mut [u64], n: usize, some: bool, mask: u64, body: usize) -> Added
+pub fn next(tab: &mut [u64], n: usize, some: bool, mask: u64, body: usize) -> Option<Added>
     requires { Ready tab.old n × ((mask < 65536) × (body < n)) }
     ensures { Answer tab.old n tab.new (next_spine some mask (get_or (forms (take n tab.old)) body tru)) (next_form some mask (get_or (forms (take n tab.old)) body tru)) result }
 {
-    let Added::At {
-        index: whole,
-        count: more,
-    } = next_one(tab, n, some, mask, body)
-    else {
-        return Added::Full;
-    };
+    let whole = next_one(tab, n, some, mask, body)?;
     if mask == 0 {
-        let Added::At {
-            index: _,
-            count: most,
-        } = unit(tab, more, some)
-        else {
-            return Added::Full;
-        };
-        return Added::At {
-            index: whole,
-            count: most,
-        };
+        let none = unit(tab, whole.count, some)?;
+        return Some(Added {
+            count: none.count,
+            ..whole
+        });
     }
     let m = first_mode(mask);
-    let Added::At {
-        index: _,
-        count: most,
-    } = each(tab, more, some, mask >> m, m, body)
-    else {
-        return Added::Full;
-    };
-    Added::At {
-        index: whole,
-        count: most,
-    }
+    let joined = each(tab, whole.count, some, mask >> m, m, body)?;
+    Some(Added {
+        count: joined.count,
+        ..whole
+    })
 }
 
 fn plain_tag(some: bool) -> u64
@@ -137,131 +107,78 @@ fn strong_tag(some: bool) -> u64
     if some { 9 } else { 10 }
 }
 
-// EU (AR where `some` is false) of two members, without its expansion.
-fn plain_one(tab: &mut [u64], n: usize, some: bool, mask: u64, left: usize, right: usize) -> Added
-    requires { Ready tab.old n × ((mask < 65536) × ((left < n) × (right < n))) }
-    ensures { Answer tab.old n tab.new
-        (plain_form some mask (get_or (forms (take n tab.old)) left tru) (get_or (forms (take n tab.old)) right tru) ∷ [])
-        (plain_form some mask (get_or (forms (take n tab.old)) left tru) (get_or (forms (take n tab.old)) right tru)) result }
-{
-    make(tab, n, plain_tag(some), mask, left, right)
-}
-
 // EU (AR where `some` is false) of two members, with its expansion.
-pub fn plain(tab: &mut [u64], n: usize, some: bool, mask: u64, left: usize, right: usize) -> Added
+pub fn plain(
+    tab: &mut [u64],
+    n: usize,
+    some: bool,
+    mask: u64,
+    left: usize,
+    right: usize,
+) -> Option<Added>
     requires { Ready tab.old n × ((mask < 65536) × ((left < n) × (right < n))) }
     ensures { Answer tab.old n tab.new
         (spine (plain_form some mask (get_or (forms (take n tab.old)) left tru) (get_or (forms (take n tab.old)) right tru)))
         (plain_form some mask (get_or (forms (take n tab.old)) left tru) (get_or (forms (take n tab.old)) right tru)) result }
 {
-    let Added::At {
-        index: whole,
-        count: a,
-    } = plain_one(tab, n, some, mask, left, right)
-    else {
-        return Added::Full;
-    };
-    let Added::At {
-        index: step,
-        count: b,
-    } = next(tab, a, some, mask, whole)
-    else {
-        return Added::Full;
-    };
-    let Added::At {
-        index: both,
-        count: c,
-    } = join(tab, b, !some, left, step)
-    else {
-        return Added::Full;
-    };
-    let Added::At { index: _, count: d } = join(tab, c, some, right, both) else {
-        return Added::Full;
-    };
-    Added::At {
-        index: whole,
-        count: d,
-    }
+    let whole = make(tab, n, plain_tag(some), mask, left, right)?;
+    let step = next(tab, whole.count, some, mask, whole.index)?;
+    let both = join(tab, step.count, !some, left, step.index)?;
+    let last = join(tab, both.count, some, right, both.index)?;
+    Some(Added {
+        count: last.count,
+        ..whole
+    })
 }
 
 // The left operand joined to the member x by `&` (by `|` where `some` is false), and the right one to that by the other.
-fn joins(tab: &mut [u64], n: usize, some: bool, left: usize, right: usize, x: usize) -> Added
+fn joins(
+    tab: &mut [u64],
+    n: usize,
+    some: bool,
+    left: usize,
+    right: usize,
+    x: usize,
+) -> Option<Added>
     requires { Ready tab.old n × ((left < n) × ((right < n) × (x < n))) }
     ensures { Answer tab.old n tab.new
         (both_joins some (get_or (forms (take n tab.old)) left tru) (get_or (forms (take n tab.old)) right tru) (get_or (forms (take n tab.old)) x tru))
         (join_form some (get_or (forms (take n tab.old)) right tru) (first_join some (get_or (forms (take n tab.old)) left tru) (get_or (forms (take n tab.old)) x tru))) result }
 {
-    let Added::At {
-        index: both,
-        count: a,
-    } = join(tab, n, !some, left, x)
-    else {
-        return Added::Full;
-    };
-    join(tab, a, some, right, both)
+    let both = join(tab, n, !some, left, x)?;
+    join(tab, both.count, some, right, both.index)
 }
 
 // The step of AU (ER) to the next nodes, with its parts.
-fn step(tab: &mut [u64], n: usize, some: bool, mask: u64, whole: usize) -> Added
+fn step(tab: &mut [u64], n: usize, some: bool, mask: u64, whole: usize) -> Option<Added>
     requires { Ready tab.old n × ((mask < 65536) × (whole < n)) }
     ensures { Answer tab.old n tab.new (step_parts some mask (get_or (forms (take n tab.old)) whole tru)) (step_form some mask (get_or (forms (take n tab.old)) whole tru)) result }
 {
-    let Added::At {
-        index: base,
-        count: a,
-    } = unit(tab, n, !some)
-    else {
-        return Added::Full;
-    };
-    let Added::At {
-        index: first,
-        count: b,
-    } = next(tab, a, some, mask, base)
-    else {
-        return Added::Full;
-    };
-    let Added::At {
-        index: second,
-        count: c,
-    } = next(tab, b, !some, mask, whole)
-    else {
-        return Added::Full;
-    };
-    join(tab, c, !some, first, second)
-}
-
-// AU (ER where `some` is false) of two members, without its expansion.
-fn strong_one(tab: &mut [u64], n: usize, some: bool, mask: u64, left: usize, right: usize) -> Added
-    requires { Ready tab.old n × ((mask < 65536) × ((left < n) × (right < n))) }
-    ensures { Answer tab.old n tab.new
-        (strong_form some mask (get_or (forms (take n tab.old)) left tru) (get_or (forms (take n tab.old)) right tru) ∷ [])
-        (strong_form some mask (get_or (forms (take n tab.old)) left tru) (get_or (forms (take n tab.old)) right tru)) result }
-{
-    make(tab, n, strong_tag(some), mask, left, right)
+    let base = unit(tab, n, !some)?;
+    let first = next(tab, base.count, some, mask, base.index)?;
+    let second = next(tab, first.count, !some, mask, whole)?;
+    join(tab, second.count, !some, first.index, second.index)
 }
 
 // AU (ER where `some` is false) of two members, with its expansion.
-pub fn strong(tab: &mut [u64], n: usize, some: bool, mask: u64, left: usize, right: usize) -> Added
+pub fn strong(
+    tab: &mut [u64],
+    n: usize,
+    some: bool,
+    mask: u64,
+    left: usize,
+    right: usize,
+) -> Option<Added>
     requires { Ready tab.old n × ((mask < 65536) × ((left < n) × (right < n))) }
     ensures { Answer tab.old n tab.new
         (spine (strong_form some mask (get_or (forms (take n tab.old)) left tru) (get_or (forms (take n tab.old)) right tru)))
         (strong_form some mask (get_or (forms (take n tab.old)) left tru) (get_or (forms (take n tab.old)) right tru)) result }
 {
-    let Added::At {
-        index: whole,
-        count: a,
-    } = strong_one(tab, n, some, mask, left, right)
-    else {
-        return Added::Full;
-    };
-    let Added::At { index: x, count: b } = step(tab, a, some, mask, whole) else {
-        return Added::Full;
-    };
-    let Added::At { index: _, count: c } = joins(tab, b, some, left, right, x) else {
-        return Added::Full;
-    };
-    Added::At {
-        index: whole,
-        count: c,
-    }
+    let whole = make(tab, n, strong_tag(some), mask, left, right)?;
+    let next = step(tab, whole.count, some, mask, whole.index)?;
+    let last = joins(tab, next.count, some, left, right, next.index)?;
+    Some(Added {
+        count: last.count,
+        ..whole
+    })
 }

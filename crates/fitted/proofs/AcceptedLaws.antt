@@ -10,6 +10,8 @@ use Rattle.ctl.specs.Tableau.{Tableau, namings, start_types}
 use Rattle.ctl.specs.Verdict.{rounds_of, surviving_types}
 use Rattle.sheet.specs.Reading.{formulas, goal_of}
 use Rattle.tableau.specs.Families.{Ready, Rounds, Survivors}
+use Rattle.tableau.specs.declared.words.Sheet.{Sheet}
+use Rattle.tableau.specs.Sheets.{rounds_of as sheet_rounds, starts_of, survivors_of}
 use Rattle.truth.specs.Blocks.{list_of}
 use Rattle.start.specs.Starts.{Based, in_base, start_list}
 use Rattle.tableau.specs.Tabled.{Tabled}
@@ -17,7 +19,7 @@ use Rattle.truth.specs.Tables.{form, lean_forms}
 use Rattle.tableau.specs.declared.table.Counts.{Counts}
 use Rattle.tableau.proofs.TableauLaws.{store-types, surviving-types, tabled}
 use Rattle.prepare.specs.Prepared.{tableau_in}
-use Rattle.judge.specs.Judged.{Judged, Places, goals_at, verdict_of}
+use Rattle.judge.specs.Judged.{Judged, Placed, Places, goals_at, goals_of, verdict_of}
 use Rattle.judge.specs.declared.Verdict.{Verdict}
 use Rattle.wordset.specs.Words.{packed}
 use Rattle.ctl.specs.Lists.{elem}
@@ -26,6 +28,9 @@ use Rattle.booking.proofs.BookLaws.{tables-ext}
 use Rattle.frame.specs.Framed.{Framed}
 use Rattle.frame.specs.SetUp.{Accepts, frame_in, globals_in, lean_in, members_in, names_in, values_in}
 use Rattle.frame.specs.declared.Setup.{Setup}
+use Rattle.frame.specs.Sheets.{SheetOf}
+use Rattle.frame.specs.Framed.{Sizes}
+use mathlib.Core.Path.{refl}
 use Rattle.frame.proofs.Stores as Stores
 use Rattle.frame.proofs.Stores.{enough-words}
 use Rattle.frame.proofs.VerdictLaws.{framed-verdict}
@@ -119,3 +124,46 @@ module _ {s : List ℕ} {u : Setup} (x : Accepts s u) where
     pub judged : {v : Verdict} → Judged (goals_at (members_in u) (lean_in u) u.words base (names_in u) u.goal) u.namings v → verdict_in s ≡ verdict_of v
     unfolding verdict_in
     judged j = framed-verdict framed base f.1 j
+
+-- ---- the same of what the sheet's tables are made from
+
+-- what is so of a sheet's members, lean, names and words is so of the set-up's
+pub by-parts : (P : List ℕ → List ℕ → List ℕ → ℕ → Type 0) {ms ms' ln ln' names names' : List ℕ} {w w' : ℕ} → ms ≡ ms' → ln ≡ ln' → names ≡ names' → w ≡ w' → P ms ln names w → P ms' ln' names' w'
+by-parts P {ms} {ms'} {ln} {ln'} {names} {names'} {w} {w'} e f g h x =
+    subst (λ a. P a ln' names' w') e (subst (λ a. P ms a names' w') f (subst (λ a. P ms ln a w') g (subst (λ a. P ms ln names a) h x)))
+
+module _ {s : List ℕ} {u : Setup} (x : Accepts s u) {t : Sheet} (f : SheetOf u t) where
+  pub ready-of : Ready (members_in u) (lean_in u) u.words t.words.tw.now t.words.cw.now t.words.ns.now × Based u.words (in_base (members_in u) (lean_in u) (globals_in u) (values_in u)) (names_in u) t.base.now
+  ready-of =
+      (by-parts (λ ms ln names w. Ready ms ln w t.words.tw.now t.words.cw.now t.words.ns.now) f.members-are f.lean-is f.names-are f.width-is f.prepared, f.based)
+
+  pub placed-of : Placed t
+  placed-of =
+      by-parts (λ ms ln names w. Places w ln names t.base.now) (sym f.members-are) (sym f.lean-is) (sym f.names-are) (sym f.width-is) (places x ready-of f.base-room)
+
+  pub few-of : t.words.w ≤ 64
+  few-of = subst (λ w. w ≤ 64) (sym f.width-is) (few_words x)
+
+  pub goal-of : u.goal < length t.ms.now
+  goal-of = subst (λ ms. u.goal < length ms) (sym f.members-are) (framed x).goal-inside
+
+  pub room-of : {k : ℕ} → u.words ≤ k → t.words.w ≤ k
+  room-of {k} h = subst (λ w. w ≤ k) (sym f.width-is) h
+
+  pub table-of : (r : ℕ) {first second first' second' : List ℕ} {c : Counts} → Tabled (starts_of t r) (survivors_of t r) (sheet_rounds t r) t.words.w first second first' second' c → TabledIn s r first second first' second' c
+  table-of r {first} {second} {first'} {second'} {c} h =
+      table_filled x ready-of f.base-room r
+      (by-parts (λ ms ln names w. let l = start_list w t.base.now names (length ln) r in Tabled l (Survivors ms ln l) (Rounds ms ln l) w first second first' second' c) f.members-are f.lean-is f.names-are f.width-is h)
+
+  pub book-of : (d : List ℕ) {d' : List ℕ} → d' ≡ tables_by t.words.w (λ r q. elem q (survivors_of t r)) u.namings ++ drop (u.namings * t.words.w) d → d' ≡ book_in s d
+  book-of d {d'} h =
+      book-filled x ready-of f.base-room d
+      (by-parts (λ ms ln names w. d' ≡ tables_by w (λ r q. elem q (Survivors ms ln (start_list w t.base.now names (length ln) r))) u.namings ++ drop (u.namings * w) d) f.members-are f.lean-is f.names-are f.width-is h)
+
+  pub book-room : {k : ℕ} → u.namings * u.words ≤ k → u.namings * t.words.w ≤ k
+  book-room {k} h = subst (λ w. u.namings * w ≤ k) (sym f.width-is) h
+
+  pub verdict-of : {v : Verdict} → Judged (goals_of t u.goal) u.namings v → verdict_in s ≡ verdict_of v
+  verdict-of {v} h =
+      judged x ready-of f.base-room
+      (by-parts (λ ms ln names w. Judged (goals_at ms ln w t.base.now names u.goal) u.namings v) f.members-are f.lean-is f.names-are f.width-is h)

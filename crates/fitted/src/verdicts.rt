@@ -1,85 +1,53 @@
 // The verdict on the goal. Assumes nothing.
-ghost use Rattle.std.specs.Prelude.{◌≡◌};
+ghost use Rattle.std.specs.Prelude.{◌≡◌, ◌≤◌};
 ghost use Rattle.judge.specs.Judged as Judged;
-ghost use Rattle.frame.specs.Framed.{Stores};
+ghost use Rattle.frame.specs.Framed.{Sizes};
 ghost use Rattle.frame.specs.SetUp.{Accepts};
 ghost use Rattle.fitted.specs.Accepted.{verdict_in};
 
 use frame::Setup;
 use judge::Verdict;
 
-// The verdict on a sheet that is not refused. The four stores are room for what depends on the sheet alone.
-fn verdict_in(
+// The verdict on a sheet that is not refused. What depends on the sheet alone is computed once, in stores of these sizes.
+fn verdict_with<const TW: usize, const CW: usize, const NS: usize, const BASE: usize>(
     sheet: &[u8],
-    u: Setup,
-    tw: &mut [u64],
-    cw: &mut [u64],
-    ns: &mut [u64],
-    base: &mut [u64],
+    u: &Setup,
 ) -> Verdict
-    requires accepts { Accepts sheet.now u }
-    requires stores { Stores u.count u.words tw.old cw.old ns.old base.old }
+    requires accepts { Accepts sheet.now u.now }
+    requires sizes { Sizes u.now.count u.now.words TW CW NS BASE }
+    requires sizes_bound { (TW ≤ 9280) × ((CW ≤ 4112) × ((NS ≤ 144) × (BASE ≤ 128))) }
     ensures { verdict_in sheet.now ≡ Judged.verdict_of result }
 {
-    let members = u.members;
-    let lean = u.lean;
-    let named = u.named;
-    let n = frame::fill(u, tw, cw, ns, base);
-    judge::judge(
-        &members[..u.count],
-        &lean[..u.width],
-        u.words,
-        tw,
-        cw,
-        &ns[..n],
-        &named[..u.names],
-        base,
-        u.goal,
-        u.namings,
-    )
+    let mut tw = [0u64; TW];
+    let mut cw = [0u64; CW];
+    let mut ns = [0u64; NS];
+    let mut base = [0u64; BASE];
+    let tables = frame::sheet_in(u, &mut tw, &mut cw, &mut ns, &mut base);
+    judge::judge(&tables, u.goal, u.namings)
 }
 
-// The same for a sheet that is not small, in room of three sizes. It is to stay a function of its own, since entering its large frame would cost a small sheet a third of its time. The
-// compiler of today leaves it one because it is as long as this and called in two places: with two sizes, or called in one place, it was compiled into its caller (docs/DECISIONS.md, 111).
-fn larger_verdict(sheet: &[u8], u: Setup) -> Verdict
-    requires { Accepts sheet.now u }
+// The same for a sheet that is not small, in room of three sizes. It is a function of its own, since entering its large frame would cost a small sheet a third of its time
+// (docs/DECISIONS.md, 111).
+#[inline(never)]
+fn larger_verdict(sheet: &[u8], u: &Setup) -> Verdict
+    requires accepts { Accepts sheet.now u.now }
     ensures { verdict_in sheet.now ≡ Judged.verdict_of result }
 {
-    if u.words <= 8 {
-        let mut tw = [0u64; 1160];
-        let mut cw = [0u64; 528];
-        let mut ns = [0u64; 144];
-        let mut base = [0u64; 16];
-        return verdict_in(sheet, u, &mut tw, &mut cw, &mut ns, &mut base);
+    match u.words {
+        0..=8 => verdict_with::<1160, 528, 144, 16>(sheet, u),
+        9..=16 => verdict_with::<2320, 1040, 144, 32>(sheet, u),
+        _ => verdict_with::<9280, 4112, 144, 128>(sheet, u),
     }
-    if u.words <= 16 {
-        let mut tw = [0u64; 2320];
-        let mut cw = [0u64; 1040];
-        let mut ns = [0u64; 144];
-        let mut base = [0u64; 32];
-        return verdict_in(sheet, u, &mut tw, &mut cw, &mut ns, &mut base);
-    }
-    let mut tw = [0u64; 9280];
-    let mut cw = [0u64; 4112];
-    let mut ns = [0u64; 144];
-    let mut base = [0u64; 128];
-    verdict_in(sheet, u, &mut tw, &mut cw, &mut ns, &mut base)
 }
 
 // The same, in room that has the sheet's size.
-pub fn fitted_verdict(sheet: &[u8], u: Setup) -> Verdict
-    requires { Accepts sheet.now u }
+pub fn fitted_verdict(sheet: &[u8], u: &Setup) -> Verdict
+    requires accepts { Accepts sheet.now u.now }
     ensures { verdict_in sheet.now ≡ Judged.verdict_of result }
 {
-    if 72 < u.count {
-        return larger_verdict(sheet, u);
+    if frame::is_small(u.count, u.words) {
+        verdict_with::<324, 272, 80, 8>(sheet, u)
+    } else {
+        larger_verdict(sheet, u)
     }
-    if 4 < u.words {
-        return larger_verdict(sheet, u);
-    }
-    let mut tw = [0u64; 324];
-    let mut cw = [0u64; 272];
-    let mut ns = [0u64; 80];
-    let mut base = [0u64; 8];
-    verdict_in(sheet, u, &mut tw, &mut cw, &mut ns, &mut base)
 }

@@ -14,13 +14,13 @@ use Rattle.needs.specs.Needs.{Fields, Listed}
 use Rattle.start.specs.Starts.{Named}
 use Rattle.truth.specs.Truths.{Truths}
 use Rattle.prepare.proofs.WidthLaws.{words-enough, words-few}
-use Rattle.frame.specs.Framed.{Framed, Sound, Stores}
+use Rattle.frame.specs.Framed.{Sizes, Framed, Sound, Stores}
 use Rattle.frame.specs.declared.Frame.{Frame}
 use Rattle.frame.specs.SetUp.{Accepts, globals_in, lean_in, members_in, names_in, values_in}
 use Rattle.frame.specs.declared.Setup.{Setup}
 
--- stores for so many members over so many words are enough for fewer
-pub sized : (most wide : ℕ) {n w : ℕ} {tw cw ns base : List ℕ} → n ≤ most → w ≤ wide → length tw ≡ (most + 9) * wide → length cw ≡ wide * 64 + 16 → length ns ≡ most + 8 → length base ≡ wide + wide → Stores n w tw cw ns base
+-- sizes for so many members over so many words are enough for fewer
+pub sized : (most wide : ℕ) {n w tw cw ns base : ℕ} → n ≤ most → w ≤ wide → tw ≡ (most + 9) * wide → cw ≡ wide * 64 + 16 → ns ≡ most + 8 → base ≡ wide + wide → Sizes n w tw cw ns base
 sized most wide {n} {w} h k a b c d =
     let p : (n + 9) * w ≤ (most + 9) * wide = mul-le-mul (let q : n + 9 ≤ most + 9 = omega arith in q) k in
     record { blocks = omega arith; entries = omega arith; needs = omega arith; families = omega arith }

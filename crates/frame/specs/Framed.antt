@@ -67,6 +67,14 @@ FramedAs ms ln kinds places globals' names' values' f =
     (s : List ℕ) (r : Reading) → Given ms ln kinds places s r
     → Framed (tableau_in s) (positive (goal_of (formulas s))) ms ln (take f.globals globals') (take f.names names') (take f.values values') f
 
+-- how many words each of these stores has at least
+pub record Sizes (count w tw cw ns base : ℕ) : Type 0 where
+  pub blocks : (count + 9) * w ≤ tw
+  pub entries : w * 64 + 16 ≤ cw
+  pub needs : count + 8 ≤ ns
+  pub families : w + w ≤ base
+
+
 -- the stores that the words ask for, which are computed from so many members over w words: a block for each member and nine for the fields, the entries of conditions with the modes' sets, the
 -- needs, and two families
 pub record Stores (count w : ℕ) (tw cw ns base : List ℕ) : Type 0 where

@@ -1,2 +1,3 @@
 pub mod Framed
 pub mod SetUp
+pub mod Sheets

@@ -7,9 +7,11 @@ ghost use Rattle.tableau.specs.Families.{Ready};
 ghost use Rattle.start.specs.Starts.{Based, in_base, Named};
 ghost use Rattle.frame.specs.Framed.{Frames, FramedAs, Sound, Stores};
 ghost use Rattle.frame.specs.SetUp.{Accepts, SetUp, globals_in, lean_in, members_in, names_in, values_in};
+ghost use Rattle.frame.specs.Sheets.{SheetOf};
 
 use limits::Limits;
 use refusal::Refusal;
+use tableau::words::{Sheet, Words};
 
 // The first n of some places, each below 256, at the beginning of a store.
 fn copy_places(places: &[usize], n: usize, to: &mut [u8])
@@ -161,11 +163,11 @@ fn fill_words(
 }
 
 // The words that depend on the sheet alone, in stores that are lent: how many needs there are.
-pub fn fill(u: Setup, tw: &mut [u64], cw: &mut [u64], ns: &mut [u64], base: &mut [u64]) -> usize
-    requires by_index { (s : List ℕ) × Accepts s u }
-    requires stores { Stores u.count u.words tw.old cw.old ns.old base.old }
-    ensures upper_bound { (result ≤ length ns.new) × Ready (members_in u) (lean_in u) u.words tw.new cw.new (take result ns.new) }
-    ensures based { Based u.words (in_base (members_in u) (lean_in u) (globals_in u) (values_in u)) (names_in u) base.new }
+pub fn fill(u: &Setup, tw: &mut [u64], cw: &mut [u64], ns: &mut [u64], base: &mut [u64]) -> usize
+    requires by_index { (s : List ℕ) × Accepts s u.now }
+    requires stores { Stores u.now.count u.now.words tw.old cw.old ns.old base.old }
+    ensures upper_bound { (result ≤ length ns.new) × Ready (members_in u.now) (lean_in u.now) u.now.words tw.new cw.new (take result ns.new) }
+    ensures based { Based u.now.words (in_base (members_in u.now) (lean_in u.now) (globals_in u.now) (values_in u.now)) (names_in u.now) base.new }
 {
     fill_words(
         &u.members[..u.count],
@@ -179,4 +181,31 @@ pub fn fill(u: Setup, tw: &mut [u64], cw: &mut [u64], ns: &mut [u64], base: &mut
         ns,
         base,
     )
+}
+
+// What the sheet's tables are made from, in the same stores.
+pub fn sheet_in<'a>(
+    u: &'a Setup,
+    tw: &'a mut [u64],
+    cw: &'a mut [u64],
+    ns: &'a mut [u64],
+    base: &'a mut [u64],
+) -> Sheet<'a>
+    requires by_index { (s : List ℕ) × Accepts s u.now }
+    requires stores { Stores u.now.count u.now.words tw.old cw.old ns.old base.old }
+    ensures { SheetOf u.entry.now result }
+{
+    let n = fill(u, tw, cw, ns, base);
+    Sheet {
+        ms: &u.members[..u.count],
+        ln: &u.lean[..u.width],
+        names: &u.named[..u.names],
+        base,
+        words: Words {
+            w: u.words,
+            tw,
+            cw,
+            ns: &ns[..n],
+        },
+    }
 }

@@ -1,8 +1,6 @@
 -- The first of some types, if there is one. Assumes nothing.
-use Rattle.std.specs.Prelude.{List, [], ◌∷◌, ℕ}
-use Rattle.goal.specs.declared.Found.{Found}
-use Rattle.goal.specs.declared.Found.TheVariants.{At, Nothing}
+use Rattle.std.specs.Prelude.{List, [], ◌∷◌, ℕ, Option, Some, None}
 
-unfoldable pub first_of : List ℕ → Found
-first_of [] = Nothing
-first_of (t ∷ ts) = At t
+unfoldable pub first_of : List ℕ → Option ℕ
+first_of [] = None
+first_of (t ∷ ts) = Some t

@@ -7,25 +7,24 @@ ghost use Rattle.truth.specs.Truths.{Truths, true_at};
 ghost use Rattle.truth.specs.Blocks.{list_of};
 ghost use Rattle.goal.specs.Goals.{first_of};
 
-#[derive(Clone, Copy)]
-pub enum Found {
-    At(usize),
-    Nothing,
-}
-
 // The least type of the first w words of ws in which member goal is true.
-pub fn goal_type(ms: &[u64], ln: &[u8], w: usize, tw: &[u64], goal: usize, ws: &[u64]) -> Found
+pub fn goal_type(
+    ms: &[u64],
+    ln: &[u8],
+    w: usize,
+    tw: &[u64],
+    goal: usize,
+    ws: &[u64],
+) -> Option<usize>
     requires truths { Truths ms.now ln.now w tw.now }
     requires goal_in_bounds { (goal < length ms.now) × (w ≤ length ws.now) × (w ≤ 1024) }
     ensures { result ≡ first_of (keep (true_at ms.now ln.now goal) (list_of w ws.now)) }
 {
-    let mut k = 0;
-    while k < w {
+    for k in 0..w {
         let x = ws[k] & tw[goal * w + k];
         if x != 0 {
-            return Found::At(k * 64 + u64::trailing_zeros(x) as usize);
+            return Some(k * 64 + x.trailing_zeros() as usize);
         }
-        k += 1;
     }
-    Found::Nothing
+    None
 }

@@ -13,12 +13,12 @@ use Rattle.spelling.specs.Spelling.{lower, run, word}
 use Rattle.spelling.proofs.SpellingLaws.{Lower}
 use Rattle.token.specs.declared.Modal.{Modal}
 use Rattle.token.specs.declared.Modal.TheVariants.{Ex, Ax}
-use Rattle.token.specs.declared.Pair.TheVariants.{Is, No}
+use Rattle.std.specs.Prelude.{Some, None}
 use Rattle.token.specs.declared.Tok.{Tok}
 use Rattle.token.specs.declared.Tok.TheVariants.{Zero, One, Letter, Capital, Operator, Infix, Not, Open, Close, OpenBrace, CloseBrace, Comma}
 use Rattle.token.specs.Token.{pick, sign_of, upper, pair_of, pair_on, least}
 use Rattle.token.specs.Tokens.{within, tokens_in, tokens}
-use Rattle.token.proofs.TokensLaws.{some_of, tokens_none, sign-token, symbol-token, capital-token, operator-token, back-token}
+use Rattle.token.proofs.TokensLaws.{proper_of, tokens_none, sign-token, symbol-token, capital-token, operator-token, back-token}
 use Rattle.ctl.specs.Formula.{Form, tru, fls, lit, nlit, and, or, ex, ax, eu, au, er, ar}
 use Rattle.ctl.specs.Lists.{◌∈◌}
 use Rattle.ctl.specs.Modes.{modes}
@@ -104,7 +104,7 @@ sign_read : (i : Bool) (b : ℕ) (k : Tok) (r : List ℕ) → T (sign b) → lea
 sign_read i b k r h x e = go (eqb b 32) (upper b) (lower b) refl refl refl h
   where
     go : (p u l : Bool) → eqb b 32 ≡ p → upper b ≡ u → lower b ≡ l → T (not p && (not u && not l)) → tokens_in i (b ∷ r) ≡ k ∷ tokens_in (within i k) r
-    go false false false p u l h = sign-token i b r (eqb-false b 32 p) k (some_of k x) u l e
+    go false false false p u l h = sign-token i b r (eqb-false b 32 p) k (proper_of k x) u l e
     go false false true p u l h = absurd h
     go false true l p u q h = absurd h
     go true u l p q w h = absurd h
@@ -185,11 +185,11 @@ unfolding Reading
 one-reading b k h w x e r = sign_read false b k r h x e ∙ ap (λ i. k ∷ tokens_in i r) w
 
 -- a capital that begins no operator of two letters
-capital-reading : (b : ℕ) → 65 ≤ b → b ≤ 90 → ((c : ℕ) → pair_of b c ≡ No) → Reading (b ∷ []) (Capital (b + 32) ∷ [])
+capital-reading : (b : ℕ) → 65 ≤ b → b ≤ 90 → ((c : ℕ) → pair_of b c ≡ None) → Reading (b ∷ []) (Capital (b + 32) ∷ [])
 unfolding Reading
 capital-reading b lo hi none r = capital-token b lo hi r (go r)
   where
-    go : (r : List ℕ) → pair_on b r ≡ No
+    go : (r : List ℕ) → pair_on b r ≡ None
     go [] = refl
     go (c ∷ r) = none c
 
@@ -223,11 +223,11 @@ module _ (at : ℕ → List ℕ) (count : ℕ) (alpha : Alphabet at count) where
   unfolding Reading
   braces-reading A h r = braces-tokens at count alpha A r h
 
-  modal-ending : (c : ℕ) (m : Modal) (A : ℕ) (s : List ℕ) (ts : List Tok) → 65 ≤ c → c ≤ 90 → pair_of c 88 ≡ Is m → DeclaredAll count A → Ending s ts → Ending (c ∷ 88 ∷ (printBraces at A ++ s)) (Operator m ∷ (braces (modes_of at A) ++ ts))
+  modal-ending : (c : ℕ) (m : Modal) (A : ℕ) (s : List ℕ) (ts : List Tok) → 65 ≤ c → c ≤ 90 → pair_of c 88 ≡ Some m → DeclaredAll count A → Ending s ts → Ending (c ∷ 88 ∷ (printBraces at A ++ s)) (Operator m ∷ (braces (modes_of at A) ++ ts))
   unfolding Ending
   modal-ending c m A s ts lo hi e h g r n = operator-token c lo hi 88 m (printBraces at A ++ s ++ r) e ∙ ap (λ x. Operator m ∷ x) (join-ending (printBraces at A) s (braces (modes_of at A)) ts (braces-reading A h) g r n)
 
-  path-ending : (c : ℕ) (A : ℕ) (s : List ℕ) (ts : List Tok) → 65 ≤ c → c ≤ 90 → pair_of c 123 ≡ No → DeclaredAll count A → Ending s ts → Ending (c ∷ (printBraces at A ++ s)) (Capital (c + 32) ∷ (braces (modes_of at A) ++ ts))
+  path-ending : (c : ℕ) (A : ℕ) (s : List ℕ) (ts : List Tok) → 65 ≤ c → c ≤ 90 → pair_of c 123 ≡ None → DeclaredAll count A → Ending s ts → Ending (c ∷ (printBraces at A ++ s)) (Capital (c + 32) ∷ (braces (modes_of at A) ++ ts))
   unfolding Ending printBraces
   path-ending c A s ts lo hi e h g r n = capital-token c lo hi (printBraces at A ++ s ++ r) e ∙ ap (λ x. Capital (c + 32) ∷ x) (join-ending (printBraces at A) s (braces (modes_of at A)) ts (braces-reading A h) g r n)
 

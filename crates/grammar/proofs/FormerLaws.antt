@@ -10,15 +10,14 @@ use borrow.Author.Tests.{ne_eqb, eqb-true, eqb-false, lt-leb}
 use Rattle.spelling.specs.Spelling.{lower, run, word}
 use Rattle.spelling.proofs.SpellingLaws.{lower-is}
 use Rattle.token.specs.declared.Modal.{Modal}
-use Rattle.token.specs.declared.Pair.{Pair}
-use Rattle.token.specs.declared.Pair.TheVariants.{Is, No}
+use Rattle.std.specs.Prelude.{Option, Some, None}
 use Rattle.token.specs.declared.Tok.{Tok}
-use Rattle.token.specs.declared.Tok.TheVariants.{End, Zero, One, Letter, Capital, Operator, Infix, Not, Open, Close, OpenBrace, CloseBrace, Comma, Other}
+use Rattle.token.specs.declared.Tok.TheVariants.{End, Letter, Capital, Operator, Infix, Open, Close, CloseBrace, Comma}
 use Rattle.token.specs.declared.Token.{Token}
 use Rattle.token.specs.Token.{pick, spaces, skip, sign_of, upper, pair_of, pair_on, alone_front, head_front, front_by, token_by, token_at, inner_at}
 use Rattle.token.specs.Tokens.{within, read_at, tokens_by, tokens_in, tokens}
 use Rattle.token.proofs.Tokens.{least-sign, upper_is}
-use Rattle.token.proofs.TokensLaws.{first, Some, some_of, Ahead, ahead, tokens-end, sign-token, symbol-token, capital-token, operator-token, back-token}
+use Rattle.token.proofs.TokensLaws.{first, Proper, proper_of, Ahead, ahead, tokens-end, sign-token, symbol-token, capital-token, operator-token, back-token}
 use Rattle.grammar.specs.Grammar.{Mode, forward, backward, Tree, mode_token, commas, braces, quantifier, connective, is_zero, is_one, is-letter, is-bracketed, is-neg, is-modal, is-path, IsFormula, is-unit, is-operand, is-infixed, Line}
 use Rattle.grammar.specs.Former.{former_single, begins, former_tokens, FormerLine}
 
@@ -32,17 +31,7 @@ abbrev pub Fits : Bool → Tok → Tok → Type 0
 Fits i (Letter k) x = NoLetter x
 Fits i (Capital k) x = i ≡ true → NoLetter x
 Fits i (Operator m) x = i ≡ false
-Fits i End x = Unit {0}
-Fits i Zero x = Unit {0}
-Fits i One x = Unit {0}
-Fits i (Infix l) x = Unit {0}
-Fits i Not x = Unit {0}
-Fits i Open x = Unit {0}
-Fits i Close x = Unit {0}
-Fits i OpenBrace x = Unit {0}
-Fits i CloseBrace x = Unit {0}
-Fits i Comma x = Unit {0}
-Fits i Other x = Unit {0}
+Fits i _ x = Unit {0}
 
 -- tokens, in braces or outside, of which each has behind it what may stand there
 abbrev pub Tidy : Bool → List Tok → Type 0
@@ -134,22 +123,22 @@ module _ (r : List ℕ) where
       (rw e at (ahead i (32 ∷ r) 0)) (ahead i r 0) (λ q. tokens-end i (32 ∷ r) (ap (λ t. t.tok) e ∙ q) ∙ sym (tokens-end i r q))
 
 -- ---- bytes whose former tokens are tidy have these tokens now
-sign-some : (b : ℕ) → Some (sign_of b)
-sign-some b = some_of (sign_of b) (least-sign b)
+sign-proper : (b : ℕ) → Proper (sign_of b)
+sign-proper b = proper_of (sign_of b) (least-sign b)
 
 word-one : (b : ℕ) → word (b ∷ []) ≡ b
 unfolding word
 word-one b = omega arith
 
 -- an operator of two letters begins with a capital
-pair-capital : (b c : ℕ) (m : Modal) → pair_of b c ≡ Is m → (65 ≤ b) × (b ≤ 90)
+pair-capital : (b c : ℕ) (m : Modal) → pair_of b c ≡ Some m → (65 ≤ b) × (b ≤ 90)
 unfolding pair_of
 pair-capital b c m e = go (eqb b 69) (eqb b 65) refl refl
   where
     go : (x y : Bool) → eqb b 69 ≡ x → eqb b 65 ≡ y → (65 ≤ b) × (b ≤ 90)
     go true y p q = let z = eqb-true b 69 p in (omega arith, omega arith)
     go false true p q = let z = eqb-true b 65 q in (omega arith, omega arith)
-    go false false p q = let f : No ≡ Is m = rw (p, q) at e in absurd (differ (cc))
+    go false false p q = let f : None ≡ Some m = rw (p, q) at e in absurd (differ (cc))
 
 -- the former tokens by the first byte
 former-step : (b : ℕ) (r : List ℕ) → former_tokens (b ∷ r) ≡ begins b (pair_on b r) (former_tokens r) (former_tokens (drop 1 r))
@@ -162,7 +151,7 @@ module _ (b : ℕ) (l : lower b ≡ true) where
   lower-other : (c : ℕ) → c < 97 → eqb b c ≡ false
   lower-other c h = ne_eqb b c (λ e. omega (arith, (lower-is b l).0))
 
-  lower-no-pair : (r : List ℕ) → pair_on b r ≡ No
+  lower-no-pair : (r : List ℕ) → pair_on b r ≡ None
   unfolding pair_of
   lower-no-pair [] = refl
   lower-no-pair (c ∷ r) = rw (lower-other 69 (omega arith), lower-other 65 (omega arith)) refl
@@ -189,7 +178,7 @@ abbrev single_by : ℕ → Bool → Bool → Tok
 single_by b u l = pick u (Capital (b + 32)) (pick l (Letter b) (sign_of b))
 
 -- a byte that begins no operator of two letters, where the bytes behind it have their former tokens
-module _ (b : ℕ) (r : List ℕ) (none : pair_on b r ≡ No) (rest : (j : Bool) → Tidy j (former_tokens r) → tokens_in j r ≡ former_tokens r) where
+module _ (b : ℕ) (r : List ℕ) (none : pair_on b r ≡ None) (rest : (j : Bool) → Tidy j (former_tokens r) → tokens_in j r ≡ former_tokens r) where
   capital-former : (i : Bool) → upper b ≡ true → Tidy i (Capital (b + 32) ∷ former_tokens r) → tokens_in i (b ∷ r) ≡ Capital (b + 32) ∷ former_tokens r
   capital-former true u h =
       back-token b (upper_is b u).0 (upper_is b u).1 [] r tt (omega arith) (former-run r (h.0 refl)) ∙ ap₂ (λ k x. Capital k ∷ x) (word-one (b + 32)) (rest true h.1)
@@ -202,9 +191,9 @@ module _ (b : ℕ) (r : List ℕ) (none : pair_on b r ≡ No) (rest : (j : Bool)
       go : (u l : Bool) → upper b ≡ u → lower b ≡ l → Tidy i (single_by b u l ∷ former_tokens r) → tokens_in i (b ∷ r) ≡ single_by b u l ∷ former_tokens r
       go true l u e h = capital-former i u h
       go false true u e h = symbol-token i b [] r (lower-is b e, tt) (omega arith) (former-run r h.0) ∙ ap₂ (λ k x. Letter k ∷ x) (word-one b) (rest i h.1)
-      go false false u e h = sign-token i b r n (sign_of b) (sign-some b) u e refl ∙ ap (λ x. sign_of b ∷ x) (rest (within i (sign_of b)) h.1)
+      go false false u e h = sign-token i b r n (sign_of b) (sign-proper b) u e refl ∙ ap (λ x. sign_of b ∷ x) (rest (within i (sign_of b)) h.1)
 
-  byte-former : (i : Bool) → Tidy i (begins b No (former_tokens r) []) → tokens_in i (b ∷ r) ≡ begins b No (former_tokens r) []
+  byte-former : (i : Bool) → Tidy i (begins b None (former_tokens r) []) → tokens_in i (b ∷ r) ≡ begins b None (former_tokens r) []
   byte-former i h = go (eqb b 32) refl h
     where
       go : (t : Bool) → eqb b 32 ≡ t → Tidy i (pick t (former_tokens r) (former_single b ∷ former_tokens r)) → tokens_in i (b ∷ r) ≡ pick t (former_tokens r) (former_single b ∷ former_tokens r)
@@ -212,7 +201,7 @@ module _ (b : ℕ) (r : List ℕ) (none : pair_on b r ≡ No) (rest : (j : Bool)
       go false e h = single-former i (eqb-false b 32 e) h
 
 -- an operator of two letters: there is none in braces
-operator-former : (i : Bool) (b c : ℕ) (m : Modal) (r : List ℕ) (ts : List Tok) → pair_of b c ≡ Is m → tokens r ≡ ts → i ≡ false → tokens_in i (b ∷ (c ∷ r)) ≡ Operator m ∷ ts
+operator-former : (i : Bool) (b c : ℕ) (m : Modal) (r : List ℕ) (ts : List Tok) → pair_of b c ≡ Some m → tokens r ≡ ts → i ≡ false → tokens_in i (b ∷ (c ∷ r)) ≡ Operator m ∷ ts
 operator-former i b c m r ts e f h = let k = pair-capital b c m e in rw h (operator-token b k.0 k.1 c m r e ∙ ap (λ x. Operator m ∷ x) f)
 
 -- following the bytes, in braces or outside: where no letters run together the tokens are the former ones
@@ -222,10 +211,10 @@ tidy-tokens i [] h = refl
 tidy-tokens i (b ∷ []) h = byte-former b [] refl (λ j g. tidy-tokens j [] g) i h
 tidy-tokens i (b ∷ (c ∷ r)) h = go (pair_of b c) refl (λ j g. tidy-tokens j (c ∷ r) g) (λ g. tidy-tokens false r g) h
   where
-    go : (p : Pair) → pair_of b c ≡ p → ((j : Bool) → Tidy j (former_tokens (c ∷ r)) → tokens_in j (c ∷ r) ≡ former_tokens (c ∷ r)) → (Tidy false (former_tokens r) → tokens r ≡ former_tokens r)
+    go : (p : Option Modal) → pair_of b c ≡ p → ((j : Bool) → Tidy j (former_tokens (c ∷ r)) → tokens_in j (c ∷ r) ≡ former_tokens (c ∷ r)) → (Tidy false (former_tokens r) → tokens r ≡ former_tokens r)
         → Tidy i (begins b p (former_tokens (c ∷ r)) (former_tokens r)) → tokens_in i (b ∷ (c ∷ r)) ≡ begins b p (former_tokens (c ∷ r)) (former_tokens r)
-    go (Is m) e near far h = operator-former i b c m r (former_tokens r) e (far (rw h.0 at h.1)) h.0
-    go No e near far h = byte-former b (c ∷ r) e near i h
+    go (Some m) e near far h = operator-former i b c m r (former_tokens r) e (far (rw h.0 at h.1)) h.0
+    go None e near far h = byte-former b (c ∷ r) e near i h
 
 pub line-former : (s : List ℕ) (t : Tree) → FormerLine s t → Line s t
 line-former s t d = rw (tidy-tokens false s (formula-tidy d)) d

@@ -7,7 +7,7 @@ use Prim.Native.Nat.{ℕ, ◌+◌, ◌*◌, ◌≤◌}
 use native.Mathlib.Omega.{arith}
 use lib.ListN.{length}
 use Rattle.token.specs.declared.Tok.{Tok}
-use Rattle.token.specs.declared.Tok.TheVariants.{End, Zero, One, Letter, Capital, Operator, Infix, Not, Open, Close, OpenBrace, CloseBrace, Comma, Other}
+use Rattle.token.specs.declared.Tok.TheVariants.{End}
 use Rattle.token.specs.Token.{on_end}
 use Rattle.token.specs.Tokens.{tokens}
 use Rattle.token.proofs.TokensLaws.{first, NoEnd, tokens-no-end, rest-no-end, tokens-length}
@@ -26,19 +26,7 @@ data Derived (ts : List Tok) : Found → Type 0 where
 
 end_token : (us : List Tok) (t : Tree) (k : Tok) (r : List Tok) → (k ≡ End → ⊥) → Derived (us ++ k ∷ r) (on_end k (tree t (k ∷ r)) nothing)
 end_token us t End r h = absurd (h refl)
-end_token us t Zero r h = not-derived
-end_token us t One r h = not-derived
-end_token us t (Letter k) r h = not-derived
-end_token us t (Capital k) r h = not-derived
-end_token us t (Operator m) r h = not-derived
-end_token us t (Infix m) r h = not-derived
-end_token us t Not r h = not-derived
-end_token us t Open r h = not-derived
-end_token us t Close r h = not-derived
-end_token us t OpenBrace r h = not-derived
-end_token us t CloseBrace r h = not-derived
-end_token us t Comma r h = not-derived
-end_token us t Other r h = not-derived
+end_token us t _ r h = not-derived
 
 end-derived : (us r : List Tok) (t : Tree) → IsFormula 0 us t → NoEnd r → Derived (us ++ r) (on_end (first r) (tree t r) nothing)
 end-derived us [] t d h = derived t [] (rw (append-nil us) d)

@@ -8,12 +8,12 @@ use lib.Dec.{eqb}
 use borrow.Author.Tests.{eq-eqb, ne_eqb}
 use Rattle.token.specs.declared.Modal.{Modal}
 use Rattle.token.specs.declared.Tok.{Tok}
-use Rattle.token.specs.declared.Tok.TheVariants.{End, Zero, One, Letter, Capital, Operator, Infix, Not, Open, Close, OpenBrace, CloseBrace, Comma, Other}
+use Rattle.token.specs.declared.Tok.TheVariants.{Zero, One, Letter, Capital, Operator, Infix, Not, Open, Close, CloseBrace, Comma}
 use Rattle.token.specs.Token.{on_close_brace}
 use Rattle.token.proofs.TokensLaws.{first, later}
 use Rattle.operators.specs.declared.kinds.Binary.{Binary}
 use Rattle.operators.specs.declared.kinds.Binary.TheVariants.{Eu, Au, Er, Ar}
-use Rattle.operators.specs.declared.kinds.Choice.TheVariants.{Is}
+use Rattle.std.specs.Prelude.{Some}
 use Rattle.operators.specs.Operators.{choice_of}
 use Rattle.grammar.specs.Grammar.{Mode, forward, backward, Tree, zero, one, letter, neg, infixed, modal, path, mode_token, commas, braces, quantifier, connective, is_zero, is_one, is-letter, is-bracketed, is-neg, is-modal, is-path, IsFormula, is-unit, is-operand, is-infixed}
 use Rattle.grammar.proofs.TreeReader.{Found, tree, FoundModes, modes, before, more_on, mode_on, modes_on, braces_on, path_on, unit_on, rest_on, level_on, read_formula, read_unit}
@@ -51,7 +51,7 @@ braces-length : (A : List Mode) → length A < length (braces A)
 braces-length A = omega (arith, commas-length A, length-append (commas A) (CloseBrace ∷ []))
 
 -- ---- units and formulas
-choice-read : (b : Binary) → choice_of (quantifier b) (connective b) ≡ Is b
+choice-read : (b : Binary) → choice_of (quantifier b) (connective b) ≡ Some b
 unfolding choice_of
 choice-read Eu = refl
 choice-read Au = refl
@@ -100,20 +100,8 @@ module _ (n : ℕ) where
     path-read b A t u ts us r e e' = rw (e, choice-read b, e') refl
 
     rest_read : (l : ℕ) (t : Tree) (ts r : List Tok) (k : Tok) → (k ≡ Infix l → ⊥) → rest_on n formula l t ts k r ≡ tree t ts
-    rest_read l t ts r End h = refl
-    rest_read l t ts r Zero h = refl
-    rest_read l t ts r One h = refl
-    rest_read l t ts r (Letter k) h = refl
-    rest_read l t ts r (Capital k) h = refl
-    rest_read l t ts r (Operator m) h = refl
     rest_read l t ts r (Infix m) h = rw (ne_eqb m l (λ e. h (ap Infix e))) refl
-    rest_read l t ts r Not h = refl
-    rest_read l t ts r Open h = refl
-    rest_read l t ts r Close h = refl
-    rest_read l t ts r OpenBrace h = refl
-    rest_read l t ts r CloseBrace h = refl
-    rest_read l t ts r Comma h = refl
-    rest_read l t ts r Other h = refl
+    rest_read l t ts r _ h = refl
 
   -- what is read of a unit, and of a formula of a level, before any tokens that do not go on with it
   abbrev UnitRead : List Tok → Tree → Type 0

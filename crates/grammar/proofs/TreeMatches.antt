@@ -10,13 +10,13 @@ use Rattle.spelling.specs.Spelling.{entry_in}
 use lib.Dec.{eqb, leb}
 use Rattle.token.specs.declared.Modal.{Modal}
 use Rattle.token.specs.declared.Tok.{Tok}
-use Rattle.token.specs.declared.Tok.TheVariants.{End, Zero, One, Letter, Capital, Operator, Infix, Not, Open, Close, OpenBrace, CloseBrace, Comma, Other}
+use Rattle.token.specs.declared.Tok.TheVariants.{End, Zero, One, Letter, Capital, Operator, Infix, Not, Open, Close}
 use Rattle.token.specs.Token.{pick, token_at, on_open, on_close, on_capital, on_end}
 use Rattle.token.specs.Tokens.{within, tokens_in, tokens}
 use Rattle.token.proofs.TokensLaws.{first, later, ahead}
 use Rattle.operators.specs.declared.braced.Modes.{Modes}
-use Rattle.operators.specs.declared.kinds.Choice.{Choice}
-use Rattle.operators.specs.declared.kinds.Choice.TheVariants.{Is, No as None}
+use Rattle.operators.specs.declared.kinds.Binary.{Binary}
+use Rattle.std.specs.Prelude.{Option, Some, None}
 use Rattle.operators.specs.Operators.{choice_of, modal as modalRaw}
 use Rattle.syntax.specs.Raw.{Raw}
 use Rattle.syntax.specs.Parse.{Out, good, bad, after, letter_low, with_modes, operand_from, path_from, unit_from, right_from, rest_from, formula_from, formula_at, unit_at, line_at}
@@ -65,7 +65,7 @@ module _ (s decl : List ℕ) where
   onward-match go go' both-none k = both-none
   onward-match go go' (both_found t e) k = k t e
 
-  modes-onward : {o : FoundModes} {o' : Modes} (go : List Mode → List Tok → Found) (go' : ℕ → ℕ → ℕ → Out) → MatchesModes s decl o o'
+  modes-onward : {o : FoundModes} {o' : Option Modes} (go : List Mode → List Tok → Found) (go' : ℕ → ℕ → ℕ → Out) → MatchesModes s decl o o'
       → ((A : List Mode) (e : ℕ) → Matches (go A (tokens (drop e s))) (go' (mode_set decl A) e (lowest (some_no_field decl A) (empty_or_twice decl A))))
       → Matches (on_modes o go) (with_modes o' go')
   modes-onward go go' no-modes k = both-none
@@ -73,78 +73,30 @@ module _ (s decl : List ℕ) where
 
   -- a token that is looked for
   close-match : (k : Tok) (t : Tree) (e : ℕ) → Matches (on_close k (tree t (tokens_in (within false k) (drop e s))) nothing) (on_close k (good (resolve decl t) e (low_of decl t)) bad)
-  close-match End t e = both-none
-  close-match Zero t e = both-none
-  close-match One t e = both-none
-  close-match (Letter k) t e = both-none
-  close-match (Capital k) t e = both-none
-  close-match (Operator m) t e = both-none
-  close-match (Infix m) t e = both-none
-  close-match Not t e = both-none
-  close-match Open t e = both-none
   close-match Close t e = both_found t e
-  close-match OpenBrace t e = both-none
-  close-match CloseBrace t e = both-none
-  close-match Comma t e = both-none
-  close-match Other t e = both-none
+  close-match _ t e = both-none
 
   open-match : (go : List Tok → Found) (go' : ℕ → Out) → ((e : ℕ) → Matches (go (tokens (drop e s))) (go' e)) → (k : Tok) (e : ℕ) → Matches (on_open k (λ _. go (tokens_in (within false k) (drop e s))) nothing) (on_open k (λ _. go' e) bad)
-  open-match go go' h End e = both-none
-  open-match go go' h Zero e = both-none
-  open-match go go' h One e = both-none
-  open-match go go' h (Letter k) e = both-none
-  open-match go go' h (Capital k) e = both-none
-  open-match go go' h (Operator m) e = both-none
-  open-match go go' h (Infix m) e = both-none
-  open-match go go' h Not e = both-none
   open-match go go' h Open e = h e
-  open-match go go' h Close e = both-none
-  open-match go go' h OpenBrace e = both-none
-  open-match go go' h CloseBrace e = both-none
-  open-match go go' h Comma e = both-none
-  open-match go go' h Other e = both-none
+  open-match go go' h _ e = both-none
 
   capital-match : (go : ℕ → List Tok → Found) (go' : ℕ → ℕ → Out) → ((c e : ℕ) → Matches (go c (tokens (drop e s))) (go' c e)) → (k : Tok) (e : ℕ) → Matches (on_capital k (λ c. go c (tokens_in (within false k) (drop e s))) nothing) (on_capital k (λ c. go' c e) bad)
-  capital-match go go' h End e = both-none
-  capital-match go go' h Zero e = both-none
-  capital-match go go' h One e = both-none
-  capital-match go go' h (Letter k) e = both-none
   capital-match go go' h (Capital k) e = h k e
-  capital-match go go' h (Operator m) e = both-none
-  capital-match go go' h (Infix m) e = both-none
-  capital-match go go' h Not e = both-none
-  capital-match go go' h Open e = both-none
-  capital-match go go' h Close e = both-none
-  capital-match go go' h OpenBrace e = both-none
-  capital-match go go' h CloseBrace e = both-none
-  capital-match go go' h Comma e = both-none
-  capital-match go go' h Other e = both-none
+  capital-match go go' h _ e = both-none
 
   end-match : {a : Found} {a' : Out} (k : Tok) → Matches a a' → Matches (on_end k a nothing) (on_end k a' bad)
   end-match End h = h
-  end-match Zero h = both-none
-  end-match One h = both-none
-  end-match (Letter k) h = both-none
-  end-match (Capital k) h = both-none
-  end-match (Operator m) h = both-none
-  end-match (Infix m) h = both-none
-  end-match Not h = both-none
-  end-match Open h = both-none
-  end-match Close h = both-none
-  end-match OpenBrace h = both-none
-  end-match CloseBrace h = both-none
-  end-match Comma h = both-none
-  end-match Other h = both-none
+  end-match _ h = both-none
 
   close-found : (t : Tree) (e : ℕ) → Matches (on_close (first (tokens (drop e s))) (tree t (later (tokens (drop e s)))) nothing) (on_close (token_at s e).tok (good (resolve decl t) (token_at s e).next (low_of decl t)) bad)
   close-found t e = let a = ahead false s e in rw (a.now, a.rest) (close-match (token_at s e).tok t (token_at s e).next)
 
   -- ---- units and formulas, from readers of their parts
   module _ (formula unit : List Tok → Found) (formula' unit' : ℕ → Out) (f : (at : ℕ) → Matches (formula (tokens (drop at s))) (formula' at)) (u : (at : ℕ) → Matches (unit (tokens (drop at s))) (unit' at)) where
-    operand-match : (A : List Mode) (t : Tree) (at : ℕ) (c : Choice)
+    operand-match : (A : List Mode) (t : Tree) (at : ℕ) (c : Option Binary)
         → Matches (operand_on (length s + 1) formula A t (tokens (drop at s)) c) (operand_from s decl formula' (mode_set decl A) (resolve decl t) (min (lowest (some_no_field decl A) (empty_or_twice decl A)) (low_of decl t)) at c)
     operand-match A t at None = both-none
-    operand-match A t at (Is b) =
+    operand-match A t at (Some b) =
         onward-match _ _ (f at)
         (λ v e.
         rw (
@@ -176,20 +128,14 @@ module _ (s decl : List ℕ) where
     modal-match m A at = onward-match _ _ (u at) (λ t e. rw (low-join (some_no_field decl A) (empty_or_twice decl A) (symbol_wrong decl t) (braces_wrong decl t)) (both_found (modal m A t) e))
 
     unit-match : (k : Tok) (at : ℕ) → Matches (unit_on (length s + 1) formula unit k (tokens_in (within false k) (drop at s))) (unit_from s decl formula' unit' k at)
-    unit-match End at = both-none
     unit-match Zero at = both_found zero at
     unit-match One at = both_found one at
     unit-match (Letter k) at = rw (letter-low (entry_in decl k)) (both_found (letter k) at)
     unit-match (Capital k) at = modes-onward _ _ (braces-match s decl at) (λ A e. path-match k A e)
     unit-match (Operator m) at = modes-onward _ _ (braces-match s decl at) (λ A e. modal-match m A e)
-    unit-match (Infix m) at = both-none
     unit-match Not at = onward-match _ _ (u at) (λ t e. both_found (neg t) e)
     unit-match Open at = onward-match _ _ (f at) (λ t e. close-found t e)
-    unit-match Close at = both-none
-    unit-match OpenBrace at = both-none
-    unit-match CloseBrace at = both-none
-    unit-match Comma at = both-none
-    unit-match Other at = both-none
+    unit-match _ at = both-none
 
   module _ (formula : List Tok → Found) (formula' : ℕ → Out) (f : (at : ℕ) → Matches (formula (tokens (drop at s))) (formula' at)) (l : ℕ) where
     right-match : (x : Bool) (t : Tree) (e at : ℕ) → Matches (right_on (length s + 1) x formula l t (tokens (drop e s)) (tokens (drop at s))) (right_from s decl x formula' l (resolve decl t) e (low_of decl t) at)
@@ -197,20 +143,8 @@ module _ (s decl : List ℕ) where
     right-match false t e at = both_found t e
 
     rest-match : (k : Tok) (t : Tree) (e at : ℕ) → Matches (rest_on (length s + 1) formula l t (tokens (drop e s)) k (tokens_in (within false k) (drop at s))) (rest_from s decl formula' l (resolve decl t) e (low_of decl t) k at)
-    rest-match End t e at = both_found t e
-    rest-match Zero t e at = both_found t e
-    rest-match One t e at = both_found t e
-    rest-match (Letter k) t e at = both_found t e
-    rest-match (Capital k) t e at = both_found t e
-    rest-match (Operator m) t e at = both_found t e
     rest-match (Infix m) t e at = right-match (eqb m l) t e at
-    rest-match Not t e at = both_found t e
-    rest-match Open t e at = both_found t e
-    rest-match Close t e at = both_found t e
-    rest-match OpenBrace t e at = both_found t e
-    rest-match CloseBrace t e at = both_found t e
-    rest-match Comma t e at = both_found t e
-    rest-match Other t e at = both_found t e
+    rest-match _ t e at = both_found t e
 
     level-match : (unit operand : List Tok → Found) (unit' operand' : ℕ → Out) (x : Bool) (at : ℕ) → Matches (unit (tokens (drop at s))) (unit' at) → Matches (operand (tokens (drop at s))) (operand' at)
         → Matches (level_on (length s + 1) x unit operand formula l (tokens (drop at s))) (formula_from s decl x unit' operand' formula' l at)

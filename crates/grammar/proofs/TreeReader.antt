@@ -4,11 +4,11 @@ use mathlib.Core.List.{List, [], ◌∷◌}
 use Prim.Native.Nat.{ℕ, suc}
 use lib.Dec.{eqb}
 use Rattle.token.specs.declared.Tok.{Tok}
-use Rattle.token.specs.declared.Tok.TheVariants.{End, Zero, One, Letter, Capital, Operator, Infix, Not, Open, Close, OpenBrace, CloseBrace, Comma, Other}
+use Rattle.token.specs.declared.Tok.TheVariants.{Zero, One, Letter, Capital, Operator, Infix, Not, Open, CloseBrace, Comma}
 use Rattle.token.specs.Token.{on_open, on_close, on_capital, on_open_brace, on_close_brace, on_end}
 use Rattle.token.proofs.TokensLaws.{first, later}
-use Rattle.operators.specs.declared.kinds.Choice.{Choice}
-use Rattle.operators.specs.declared.kinds.Choice.TheVariants.{Is, No as None}
+use Rattle.operators.specs.declared.kinds.Binary.{Binary}
+use Rattle.std.specs.Prelude.{Option, Some, None}
 use Rattle.operators.specs.Operators.{choice_of}
 use Rattle.grammar.specs.Grammar.{Mode, forward, backward, Tree, zero, one, letter, neg, infixed, modal, path}
 
@@ -37,36 +37,14 @@ before m no_modes = no_modes
 
 -- what follows a mode: a comma and more modes, or the closing brace
 abbrev pub more_on : (List Tok → FoundModes) → Mode → Tok → List Tok → FoundModes
-more_on more n End r = no_modes
-more_on more n Zero r = no_modes
-more_on more n One r = no_modes
-more_on more n (Letter k) r = no_modes
-more_on more n (Capital k) r = no_modes
-more_on more n (Operator m) r = no_modes
-more_on more n (Infix m) r = no_modes
-more_on more n Not r = no_modes
-more_on more n Open r = no_modes
-more_on more n Close r = no_modes
-more_on more n OpenBrace r = no_modes
 more_on more n CloseBrace r = modes (n ∷ []) r
 more_on more n Comma r = before n (more r)
-more_on more n Other r = no_modes
+more_on more n _ r = no_modes
 
 abbrev pub mode_on : (List Tok → FoundModes) → Tok → List Tok → FoundModes
-mode_on more End r = no_modes
-mode_on more Zero r = no_modes
-mode_on more One r = no_modes
 mode_on more (Letter k) r = more_on more (forward k) (first r) (later r)
 mode_on more (Capital k) r = more_on more (backward k) (first r) (later r)
-mode_on more (Operator m) r = no_modes
-mode_on more (Infix m) r = no_modes
-mode_on more Not r = no_modes
-mode_on more Open r = no_modes
-mode_on more Close r = no_modes
-mode_on more OpenBrace r = no_modes
-mode_on more CloseBrace r = no_modes
-mode_on more Comma r = no_modes
-mode_on more Other r = no_modes
+mode_on more _ r = no_modes
 
 -- modes with commas between, up to the closing brace
 unfoldable pub modes_on : (fuel : ℕ) → List Tok → FoundModes
@@ -78,28 +56,22 @@ module _ (n : ℕ) where
   unfoldable pub braces_on : List Tok → FoundModes
   braces_on ts = on_open_brace (first ts) (λ _. on_close_brace (first (later ts)) (modes [] (later (later ts))) (modes_on n (later ts))) no_modes
 
-  abbrev pub operand_on : (List Tok → Found) → List Mode → Tree → List Tok → Choice → Found
+  abbrev pub operand_on : (List Tok → Found) → List Mode → Tree → List Tok → Option Binary → Found
   operand_on formula A t r None = nothing
-  operand_on formula A t r (Is b) = onward (formula r) (λ u r'. on_close (first r') (tree (path b A t u) (later r')) nothing)
+  operand_on formula A t r (Some b) = onward (formula r) (λ u r'. on_close (first r') (tree (path b A t u) (later r')) nothing)
 
   unfoldable pub path_on : (List Tok → Found) → ℕ → List Mode → List Tok → Found
   path_on formula k A ts = on_open (first ts) (λ _. onward (formula (later ts)) (λ t r. on_capital (first r) (λ c. operand_on formula A t (later r) (choice_of k c)) nothing)) nothing
 
   abbrev pub unit_on : (List Tok → Found) → (List Tok → Found) → Tok → List Tok → Found
-  unit_on formula unit End r = nothing
   unit_on formula unit Zero r = tree zero r
   unit_on formula unit One r = tree one r
   unit_on formula unit (Letter k) r = tree (letter k) r
   unit_on formula unit (Capital k) r = on_modes (braces_on r) (λ A r'. path_on formula k A r')
   unit_on formula unit (Operator m) r = on_modes (braces_on r) (λ A r'. onward (unit r') (λ t r''. tree (modal m A t) r''))
-  unit_on formula unit (Infix m) r = nothing
   unit_on formula unit Not r = onward (unit r) (λ t r'. tree (neg t) r')
   unit_on formula unit Open r = onward (formula r) (λ t r'. on_close (first r') (tree t (later r')) nothing)
-  unit_on formula unit Close r = nothing
-  unit_on formula unit OpenBrace r = nothing
-  unit_on formula unit CloseBrace r = nothing
-  unit_on formula unit Comma r = nothing
-  unit_on formula unit Other r = nothing
+  unit_on formula unit _ r = nothing
 
   abbrev pub right_on : Bool → (List Tok → Found) → ℕ → Tree → List Tok → List Tok → Found
   right_on true right l t ts r = onward (right r) (λ u r'. tree (infixed l t u) r')
@@ -107,20 +79,8 @@ module _ (n : ℕ) where
 
   -- what follows the left operand t of an infix operator of a level; `ts` are the tokens from there on
   abbrev pub rest_on : (List Tok → Found) → ℕ → Tree → List Tok → Tok → List Tok → Found
-  rest_on right l t ts End r = tree t ts
-  rest_on right l t ts Zero r = tree t ts
-  rest_on right l t ts One r = tree t ts
-  rest_on right l t ts (Letter k) r = tree t ts
-  rest_on right l t ts (Capital k) r = tree t ts
-  rest_on right l t ts (Operator m) r = tree t ts
   rest_on right l t ts (Infix m) r = right_on (eqb m l) right l t ts r
-  rest_on right l t ts Not r = tree t ts
-  rest_on right l t ts Open r = tree t ts
-  rest_on right l t ts Close r = tree t ts
-  rest_on right l t ts OpenBrace r = tree t ts
-  rest_on right l t ts CloseBrace r = tree t ts
-  rest_on right l t ts Comma r = tree t ts
-  rest_on right l t ts Other r = tree t ts
+  rest_on right l t ts _ r = tree t ts
 
   abbrev pub level_on : Bool → (List Tok → Found) → (List Tok → Found) → (List Tok → Found) → ℕ → List Tok → Found
   level_on true unit operand formula l ts = unit ts

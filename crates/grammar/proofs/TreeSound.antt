@@ -6,13 +6,12 @@ use Prim.Native.Nat.{ℕ, suc}
 use lib.Dec.{eqb}
 use borrow.Author.Tests.{eqb-true}
 use Rattle.token.specs.declared.Tok.{Tok}
-use Rattle.token.specs.declared.Tok.TheVariants.{End, Zero, One, Letter, Capital, Operator, Infix, Not, Open, Close, OpenBrace, CloseBrace, Comma, Other}
+use Rattle.token.specs.declared.Tok.TheVariants.{Zero, One, Letter, Capital, Operator, Infix, Not, Open, Close, OpenBrace, CloseBrace, Comma}
 use Rattle.token.specs.Token.{pick, on_open, on_close, on_capital, on_open_brace, on_close_brace}
 use Rattle.token.proofs.TokensLaws.{first, later}
 use Rattle.operators.specs.declared.kinds.Binary.{Binary}
 use Rattle.operators.specs.declared.kinds.Binary.TheVariants.{Eu, Au, Er, Ar}
-use Rattle.operators.specs.declared.kinds.Choice.{Choice}
-use Rattle.operators.specs.declared.kinds.Choice.TheVariants.{Is, No as None}
+use Rattle.std.specs.Prelude.{Option, Some, None}
 use Rattle.operators.specs.Operators.{choice_of}
 use Rattle.grammar.specs.Grammar.{Mode, forward, backward, Tree, zero, one, letter, neg, infixed, modal, path, mode_token, commas, braces, quantifier, connective, IsUnit, is_zero, is_one, is-letter, is-bracketed, is-neg, is-modal, is-path, IsFormula, is-unit, is-operand, is-infixed}
 use Rattle.grammar.proofs.TreeReader.{Found, tree, nothing, onward, FoundModes, modes, no_modes, on_modes, before, more_on, mode_on, modes_on, braces_on, operand_on, path_on, unit_on, right_on, rest_on, level_on, read_formula, read_unit}
@@ -28,40 +27,18 @@ before-list n (some-list m A r) = some-list n (m ∷ A) r
 
 module _ (more : List Tok → FoundModes) (h : (ts : List Tok) → SoundList ts (more ts)) where
   more-token : (n : Mode) (k : Tok) (r : List Tok) → SoundList (mode_token n ∷ k ∷ r) (more_on more n k r)
-  more-token n End r = no-list
-  more-token n Zero r = no-list
-  more-token n One r = no-list
-  more-token n (Letter k) r = no-list
-  more-token n (Capital k) r = no-list
-  more-token n (Operator m) r = no-list
-  more-token n (Infix m) r = no-list
-  more-token n Not r = no-list
-  more-token n Open r = no-list
-  more-token n Close r = no-list
-  more-token n OpenBrace r = no-list
   more-token n CloseBrace r = some-list n [] r
   more-token n Comma r = before-list n (h r)
-  more-token n Other r = no-list
+  more-token n _ r = no-list
 
   more-list : (n : Mode) (ts : List Tok) → SoundList (mode_token n ∷ ts) (more_on more n (first ts) (later ts))
   more-list n [] = no-list
   more-list n (k ∷ r) = more-token n k r
 
   mode-token : (k : Tok) (r : List Tok) → SoundList (k ∷ r) (mode_on more k r)
-  mode-token End r = no-list
-  mode-token Zero r = no-list
-  mode-token One r = no-list
   mode-token (Letter k) r = more-list (forward k) r
   mode-token (Capital k) r = more-list (backward k) r
-  mode-token (Operator m) r = no-list
-  mode-token (Infix m) r = no-list
-  mode-token Not r = no-list
-  mode-token Open r = no-list
-  mode-token Close r = no-list
-  mode-token OpenBrace r = no-list
-  mode-token CloseBrace r = no-list
-  mode-token Comma r = no-list
-  mode-token Other r = no-list
+  mode-token _ r = no-list
 
   mode-list : (ts : List Tok) → SoundList ts (mode_on more (first ts) (later ts))
   mode-list [] = no-list
@@ -82,40 +59,16 @@ list-braces (some-list m A r) = rw (← append_assoc (commas (m ∷ A)) (CloseBr
 
 module _ (n : ℕ) where
   closing-sound : (k : Tok) (r : List Tok) → SoundModes (OpenBrace ∷ k ∷ r) (on_close_brace k (modes [] r) (modes_on n (k ∷ r)))
-  closing-sound End r = list-braces (modes-list n (End ∷ r))
-  closing-sound Zero r = list-braces (modes-list n (Zero ∷ r))
-  closing-sound One r = list-braces (modes-list n (One ∷ r))
-  closing-sound (Letter k) r = list-braces (modes-list n ((Letter k) ∷ r))
-  closing-sound (Capital k) r = list-braces (modes-list n ((Capital k) ∷ r))
-  closing-sound (Operator m) r = list-braces (modes-list n ((Operator m) ∷ r))
-  closing-sound (Infix m) r = list-braces (modes-list n ((Infix m) ∷ r))
-  closing-sound Not r = list-braces (modes-list n (Not ∷ r))
-  closing-sound Open r = list-braces (modes-list n (Open ∷ r))
-  closing-sound Close r = list-braces (modes-list n (Close ∷ r))
-  closing-sound OpenBrace r = list-braces (modes-list n (OpenBrace ∷ r))
   closing-sound CloseBrace r = some-modes [] r
-  closing-sound Comma r = list-braces (modes-list n (Comma ∷ r))
-  closing-sound Other r = list-braces (modes-list n (Other ∷ r))
+  closing-sound k r = list-braces (modes-list n (k ∷ r))
 
   inner-sound : (r : List Tok) → SoundModes (OpenBrace ∷ r) (on_close_brace (first r) (modes [] (later r)) (modes_on n r))
   inner-sound [] = list-braces (modes-list n [])
   inner-sound (k ∷ r) = closing-sound k r
 
   opening-sound : (k : Tok) (r : List Tok) → SoundModes (k ∷ r) (on_open_brace k (λ _. on_close_brace (first r) (modes [] (later r)) (modes_on n r)) no_modes)
-  opening-sound End r = no-modes
-  opening-sound Zero r = no-modes
-  opening-sound One r = no-modes
-  opening-sound (Letter k) r = no-modes
-  opening-sound (Capital k) r = no-modes
-  opening-sound (Operator m) r = no-modes
-  opening-sound (Infix m) r = no-modes
-  opening-sound Not r = no-modes
-  opening-sound Open r = no-modes
-  opening-sound Close r = no-modes
   opening-sound OpenBrace r = inner-sound r
-  opening-sound CloseBrace r = no-modes
-  opening-sound Comma r = no-modes
-  opening-sound Other r = no-modes
+  opening-sound _ r = no-modes
 
   braces-sound : (ts : List Tok) → SoundModes ts (braces_on n ts)
   unfolding braces_on
@@ -141,35 +94,23 @@ module _ (Q : List Tok → Tree → Type 0) where
   modes-onward front go (some-modes A r) k = k A r
 
   close-token : (front : List Tok) (t : Tree) (k : Tok) (r : List Tok) → Q (front ++ Close ∷ []) t → Sound Q (front ++ k ∷ r) (on_close k (tree t r) nothing)
-  close-token front t End r d = none_found
-  close-token front t Zero r d = none_found
-  close-token front t One r d = none_found
-  close-token front t (Letter k) r d = none_found
-  close-token front t (Capital k) r d = none_found
-  close-token front t (Operator m) r d = none_found
-  close-token front t (Infix m) r d = none_found
-  close-token front t Not r d = none_found
-  close-token front t Open r d = none_found
   close-token front t Close r d = rw (← append_assoc front (Close ∷ []) r) (some-found (front ++ Close ∷ []) r t d)
-  close-token front t OpenBrace r d = none_found
-  close-token front t CloseBrace r d = none_found
-  close-token front t Comma r d = none_found
-  close-token front t Other r d = none_found
+  close-token front t _ r d = none_found
 
   close-sound : (front : List Tok) (t : Tree) (r : List Tok) → Q (front ++ Close ∷ []) t → Sound Q (front ++ r) (on_close (first r) (tree t (later r)) nothing)
   close-sound front t [] d = none_found
   close-sound front t (k ∷ r) d = close-token front t k r d
 
 -- the operator that two capitals make
-data Chosen (q c : ℕ) : Choice → Type 0 where
+data Chosen (q c : ℕ) : Option Binary → Type 0 where
   not_chosen : Chosen q c None
-  chosen : (b : Binary) → q ≡ quantifier b → c ≡ connective b → Chosen q c (Is b)
+  chosen : (b : Binary) → q ≡ quantifier b → c ≡ connective b → Chosen q c (Some b)
 
 choice-is : (q c : ℕ) → Chosen q c (choice_of q c)
 unfolding choice_of
 choice-is q c = go (eqb q 101) (eqb q 97) (eqb c 117) (eqb c 114) refl refl refl refl
   where
-    go : (x y z w : Bool) → eqb q 101 ≡ x → eqb q 97 ≡ y → eqb c 117 ≡ z → eqb c 114 ≡ w → Chosen q c (pick x (pick z (Is Eu) (pick w (Is Er) None)) (pick y (pick z (Is Au) (pick w (Is Ar) None)) None))
+    go : (x y z w : Bool) → eqb q 101 ≡ x → eqb q 97 ≡ y → eqb c 117 ≡ z → eqb c 114 ≡ w → Chosen q c (pick x (pick z (Some Eu) (pick w (Some Er) None)) (pick y (pick z (Some Au) (pick w (Some Ar) None)) None))
     go true y true w e f g h = chosen Eu (eqb-true q 101 e) (eqb-true c 117 g)
     go true y false true e f g h = chosen Er (eqb-true q 101 e) (eqb-true c 114 h)
     go true y false false e f g h = not_chosen
@@ -180,7 +121,7 @@ choice-is q c = go (eqb q 101) (eqb q 97) (eqb c 117) (eqb c 114) refl refl refl
 
 -- units, from readers of their parts
 module _ (n : ℕ) (formula unit : List Tok → Found) (f : (ts : List Tok) → Sound (IsFormula 0) ts (formula ts)) (u : (ts : List Tok) → Sound IsUnit ts (unit ts)) where
-  operand_sound : (k c : ℕ) (A : List Mode) (us : List Tok) (t : Tree) → IsFormula 0 us t → (r : List Tok) {o : Choice} → Chosen k c o → Sound IsUnit (Capital k ∷ braces A ++ Open ∷ us ++ Capital c ∷ r) (operand_on n formula A t r o)
+  operand_sound : (k c : ℕ) (A : List Mode) (us : List Tok) (t : Tree) → IsFormula 0 us t → (r : List Tok) {o : Option Binary} → Chosen k c o → Sound IsUnit (Capital k ∷ braces A ++ Open ∷ us ++ Capital c ∷ r) (operand_on n formula A t r o)
   operand_sound k c A us t d r not_chosen = none_found
   operand_sound k c A us t d r (chosen b e e') =
       rw (← append_assoc (braces A ++ Open ∷ us) (Capital c ∷ []) r)
@@ -190,20 +131,8 @@ module _ (n : ℕ) (formula unit : List Tok → Found) (f : (ts : List Tok) → 
       (close-sound IsUnit (Capital k ∷ braces A ++ Open ∷ us ++ Capital c ∷ vs) (path b A t v) r' (rw (e, e') (is-path d d')))))
 
   between-token : (k : ℕ) (A : List Mode) (us : List Tok) (t : Tree) → IsFormula 0 us t → (x : Tok) (r : List Tok) → Sound IsUnit (Capital k ∷ braces A ++ Open ∷ us ++ x ∷ r) (on_capital x (λ c. operand_on n formula A t r (choice_of k c)) nothing)
-  between-token q A us t d End r = none_found
-  between-token q A us t d Zero r = none_found
-  between-token q A us t d One r = none_found
-  between-token q A us t d (Letter k) r = none_found
   between-token q A us t d (Capital k) r = operand_sound q k A us t d r (choice-is q k)
-  between-token q A us t d (Operator m) r = none_found
-  between-token q A us t d (Infix m) r = none_found
-  between-token q A us t d Not r = none_found
-  between-token q A us t d Open r = none_found
-  between-token q A us t d Close r = none_found
-  between-token q A us t d OpenBrace r = none_found
-  between-token q A us t d CloseBrace r = none_found
-  between-token q A us t d Comma r = none_found
-  between-token q A us t d Other r = none_found
+  between-token q A us t d _ r = none_found
 
   between-sound : (k : ℕ) (A : List Mode) (us : List Tok) (t : Tree) → IsFormula 0 us t → (r : List Tok) → Sound IsUnit (Capital k ∷ braces A ++ Open ∷ us ++ r) (on_capital (first r) (λ c. operand_on n formula A t (later r) (choice_of k c)) nothing)
   between-sound k A us t d [] = none_found
@@ -218,20 +147,8 @@ module _ (n : ℕ) (formula unit : List Tok → Found) (f : (ts : List Tok) → 
       (between-sound k A us t d r')))
 
   path-token : (q : ℕ) (A : List Mode) (x : Tok) (r : List Tok) → Sound IsUnit (Capital q ∷ braces A ++ x ∷ r) (on_open x (λ _. onward (formula r) (λ t r'. on_capital (first r') (λ c. operand_on n formula A t (later r') (choice_of q c)) nothing)) nothing)
-  path-token q A End r = none_found
-  path-token q A Zero r = none_found
-  path-token q A One r = none_found
-  path-token q A (Letter k) r = none_found
-  path-token q A (Capital k) r = none_found
-  path-token q A (Operator m) r = none_found
-  path-token q A (Infix m) r = none_found
-  path-token q A Not r = none_found
   path-token q A Open r = path-open q A r
-  path-token q A Close r = none_found
-  path-token q A OpenBrace r = none_found
-  path-token q A CloseBrace r = none_found
-  path-token q A Comma r = none_found
-  path-token q A Other r = none_found
+  path-token q A _ r = none_found
 
   path-sound : (k : ℕ) (A : List Mode) (ts : List Tok) → Sound IsUnit (Capital k ∷ braces A ++ ts) (path_on n formula k A ts)
   unfolding path_on
@@ -239,7 +156,6 @@ module _ (n : ℕ) (formula unit : List Tok → Found) (f : (ts : List Tok) → 
   path-sound k A (x ∷ r) = path-token k A x r
 
   unit-token : (k : Tok) (r : List Tok) → Sound IsUnit (k ∷ r) (unit_on n formula unit k r)
-  unit-token End r = none_found
   unit-token Zero r = some-found (Zero ∷ []) r zero is_zero
   unit-token One r = some-found (One ∷ []) r one is_one
   unit-token (Letter k) r = some-found (Letter k ∷ []) r (letter k) is-letter
@@ -247,14 +163,9 @@ module _ (n : ℕ) (formula unit : List Tok → Found) (f : (ts : List Tok) → 
   unit-token (Operator m) r =
       modes-onward IsUnit (Operator m ∷ []) _ (braces-sound n r)
       (λ A r'. onward-sound IsUnit (Operator m ∷ braces A) _ (u r') (λ us r'' t d. rw (← append_assoc (braces A) us r'') (some-found (Operator m ∷ braces A ++ us) r'' (modal m A t) (is-modal d))))
-  unit-token (Infix m) r = none_found
   unit-token Not r = onward-sound IsUnit (Not ∷ []) _ (u r) (λ us r' t d. some-found (Not ∷ us) r' (neg t) (is-neg d))
   unit-token Open r = onward-sound IsUnit (Open ∷ []) _ (f r) (λ us r' t d. close-sound IsUnit (Open ∷ us) t r' (is-bracketed d))
-  unit-token Close r = none_found
-  unit-token OpenBrace r = none_found
-  unit-token CloseBrace r = none_found
-  unit-token Comma r = none_found
-  unit-token Other r = none_found
+  unit-token _ r = none_found
 
   unit-sound : (ts : List Tok) → Sound IsUnit ts (unit_on n formula unit (first ts) (later ts))
   unit-sound [] = none_found
@@ -272,20 +183,8 @@ module _ (n : ℕ) (formula : List Tok → Found) (l : ℕ) (f : (ts : List Tok)
   right-sound false m us t d r e = some-found us (Infix m ∷ r) t (is-operand d)
 
   rest-token : (us : List Tok) (t : Tree) → IsFormula (suc l) us t → (k : Tok) (r : List Tok) → Sound (IsFormula l) (us ++ k ∷ r) (rest_on n formula l t (k ∷ r) k r)
-  rest-token us t d End r = some-found us (End ∷ r) t (is-operand d)
-  rest-token us t d Zero r = some-found us (Zero ∷ r) t (is-operand d)
-  rest-token us t d One r = some-found us (One ∷ r) t (is-operand d)
-  rest-token us t d (Letter k) r = some-found us ((Letter k) ∷ r) t (is-operand d)
-  rest-token us t d (Capital k) r = some-found us ((Capital k) ∷ r) t (is-operand d)
-  rest-token us t d (Operator m) r = some-found us ((Operator m) ∷ r) t (is-operand d)
   rest-token us t d (Infix m) r = right-sound (eqb m l) m us t d r refl
-  rest-token us t d Not r = some-found us (Not ∷ r) t (is-operand d)
-  rest-token us t d Open r = some-found us (Open ∷ r) t (is-operand d)
-  rest-token us t d Close r = some-found us (Close ∷ r) t (is-operand d)
-  rest-token us t d OpenBrace r = some-found us (OpenBrace ∷ r) t (is-operand d)
-  rest-token us t d CloseBrace r = some-found us (CloseBrace ∷ r) t (is-operand d)
-  rest-token us t d Comma r = some-found us (Comma ∷ r) t (is-operand d)
-  rest-token us t d Other r = some-found us (Other ∷ r) t (is-operand d)
+  rest-token us t d k r = some-found us (k ∷ r) t (is-operand d)
 
   rest-sound : (us : List Tok) (t : Tree) → IsFormula (suc l) us t → (r : List Tok) → Sound (IsFormula l) (us ++ r) (rest_on n formula l t r (first r) (later r))
   rest-sound us t d [] = some-found us [] t (is-operand d)

@@ -1,8 +1,8 @@
 -- The tokens of document 01, where every letter is a token by itself: what request §1 is compared with. Nothing but proofs/FormerLaws cites it. Assumes nothing.
 use Rattle.std.specs.Prelude.{List, [], ◌∷◌, ℕ, ◌+◌, eqb}
 use Rattle.spelling.specs.Spelling.{lower}
-use Rattle.token.specs.declared.Pair.{Pair}
-use Rattle.token.specs.declared.Pair.TheVariants.{Is, No}
+use Rattle.std.specs.Prelude.{Option, Some, None}
+use Rattle.token.specs.declared.Modal.{Modal}
 use Rattle.token.specs.declared.Tok.{Tok}
 use Rattle.token.specs.declared.Tok.TheVariants.{Letter, Capital, Operator}
 use Rattle.token.specs.Token.{pick, upper, sign_of, pair_of}
@@ -14,14 +14,14 @@ former_single b = pick (upper b) (Capital (b + 32)) (pick (lower b) (Letter b) (
 
 -- What the byte b begins, before the tokens that follow. An operator of two letters stands before the tokens after its second letter, `far`;
 -- any other token stands before the tokens after b, `near`; a space is no token
-abbrev pub begins : ℕ → Pair → List Tok → List Tok → List Tok
-begins b (Is m) near far = Operator m ∷ far
-begins b No near far = pick (eqb b 32) near (former_single b ∷ near)
+abbrev pub begins : ℕ → Option Modal → List Tok → List Tok → List Tok
+begins b (Some m) near far = Operator m ∷ far
+begins b None near far = pick (eqb b 32) near (former_single b ∷ near)
 
 -- the tokens of a line's bytes
 unfoldable pub former_tokens : List ℕ → List Tok
 former_tokens [] = []
-former_tokens (b ∷ []) = begins b No [] []
+former_tokens (b ∷ []) = begins b None [] []
 former_tokens (b ∷ (c ∷ r)) = begins b (pair_of b c) (former_tokens (c ∷ r)) (former_tokens r)
 
 -- what the grammar of document 01 derived: its rules are the same

@@ -33,10 +33,11 @@ use Rattle.sheet.specs.Reading.{globals_of, goal_of}
 use Rattle.sheet.specs.Refusal.{braces_wrong, conditions, grammar_wrong, symbols_wrong}
 use Rattle.reader.specs.Reader.{refusal_within}
 use Rattle.layout.specs.Ascii.{ascii}
-use Rattle.outcomes.specs.declared.TableAnswer.{TableAnswer}
-use Rattle.outcomes.specs.declared.TableAnswer.TheVariants.{Done}
-use Rattle.outcomes.specs.declared.VerdictAnswer.{VerdictAnswer}
-use Rattle.outcomes.specs.declared.VerdictAnswer.TheVariants.{Open, Unsatisfiable}
+use Rattle.std.specs.Prelude.{Result, Ok}
+use Rattle.refusal.specs.declared.Refusal.{Refusal}
+use Rattle.judge.specs.declared.Verdict.{Verdict}
+use Rattle.judge.specs.declared.Verdict.TheVariants as Judging
+use Rattle.outcomes.specs.declared.Tabled.{Tabled}
 use Rattle.limits.specs.Limits.{limits_wrong, refusal_under, usual}
 use Rattle.prepare.specs.Width.{words_for}
 use Rattle.outcomes.specs.Outcomes.{snapshot_refusal, snapshot_row, table_answer, table_refusal, verdict_of}
@@ -46,8 +47,8 @@ use Rattle.fitted.specs.Accepted.{listed_in, survivors_in, verdict_in, words_in}
 -- under a naming; the same in document 02's order; the row of a snapshot's text; the number that refuses a text with so many bytes for its row
 record Graph : Type 0 where
   sheet : List ℕ
-  verdict : List VerdictAnswer
-  tables : List (ℕ × TableAnswer)
+  verdict : List (Result Verdict Refusal)
+  tables : List (ℕ × Result Tabled Refusal)
   survivors : List (ℕ × List ℕ)
   lists : List (ℕ × List ℕ)
   rows : List (List ℕ × List ℕ)
@@ -57,32 +58,42 @@ record Graph : Type 0 where
 abbrev under : String → List ℕ
 under goal = ascii "k f\nmark field\ngoal " ++ ascii goal ++ ascii "\n"
 
-abbrev graph : List ℕ → VerdictAnswer → Graph
+-- the answers
+abbrev open' : ℕ → ℕ → Result Verdict Refusal
+open' r t = Ok (Judging.Open r t)
+
+abbrev unsatisfiable : Result Verdict Refusal
+unsatisfiable = Ok Judging.Unsatisfiable
+
+abbrev done : ℕ → ℕ → ℕ → ℕ → Result Tabled Refusal
+done words start left rounds = Ok (record { words = words; start = start; left = left; rounds = rounds })
+
+abbrev graph : List ℕ → Result Verdict Refusal → Graph
 graph s v = record { sheet = s; verdict = v ∷ []; tables = []; survivors = []; lists = []; rows = []; refused = [] }
 
 abbrev graphs : List Graph
 graphs =
-    record { sheet = under "EX{f}k"; verdict = Open 0 2 ∷ []; tables = (0, Done 1 4 4 0) ∷ []; survivors = []; lists = []; rows = (ascii "k f\n0 2\n1 0\n", 3 ∷ 2 ∷ []) ∷ []; refused = [] }
-    ∷ graph (under "1") (Open 0 0)
-    ∷ record { sheet = under "0"; verdict = Unsatisfiable ∷ []; tables = (0, Done 1 1 1 0) ∷ []; survivors = []; lists = []; rows = []; refused = [] }
-    ∷ graph (under "EX{f}k&EX{f}!k") Unsatisfiable
-    ∷ graph (under "EX{F}k&EX{F}!k") (Open 0 6)
+    record { sheet = under "EX{f}k"; verdict = open' 0 2 ∷ []; tables = (0, done 1 4 4 0) ∷ []; survivors = []; lists = []; rows = (ascii "k f\n0 2\n1 0\n", 3 ∷ 2 ∷ []) ∷ []; refused = [] }
+    ∷ graph (under "1") (open' 0 0)
+    ∷ record { sheet = under "0"; verdict = unsatisfiable ∷ []; tables = (0, done 1 1 1 0) ∷ []; survivors = []; lists = []; rows = []; refused = [] }
+    ∷ graph (under "EX{f}k&EX{f}!k") unsatisfiable
+    ∷ graph (under "EX{F}k&EX{F}!k") (open' 0 6)
     ∷ record {
       sheet = ascii "k v f g\nmark name field field\nall v>(EX{f}k&EX{f}!k)\ngoal EX{g}v\n";
-      verdict = Unsatisfiable ∷ [];
-      tables = (0, Done 1 16 6 1) ∷ (10, Done 1 17 6 2) ∷ [];
+      verdict = unsatisfiable ∷ [];
+      tables = (0, done 1 16 6 1) ∷ (10, done 1 17 6 2) ∷ [];
       survivors = (10, 0 ∷ 1 ∷ 4 ∷ 5 ∷ 16 ∷ 17 ∷ []) ∷ [];
       lists = (10, 0 ∷ 1 ∷ 4 ∷ 16 ∷ 5 ∷ 17 ∷ []) ∷ [];
       rows = [];
       refused = [];
     }
-    ∷ graph (under "AF{f}k&AX{f}0&!k") Unsatisfiable
-    ∷ graph (under "A{f,F}(1Uk)&!k&EX{f}!k") Unsatisfiable
+    ∷ graph (under "AF{f}k&AX{f}0&!k") unsatisfiable
+    ∷ graph (under "A{f,F}(1Uk)&!k&EX{f}!k") unsatisfiable
     -- document 01 has open 0 12 here. By document 02 §4 a name's set covers the other names, so v's one node cannot have w through f and not have it through g
     ∷ record {
       sheet = ascii "v w f g\nname name field field\ngoal EX{f}(v&w)&EX{g}(v&!w)\n";
-      verdict = Unsatisfiable ∷ [];
-      tables = (0, Done 1 6 4 1) ∷ (1, Done 1 5 2 1) ∷ [];
+      verdict = unsatisfiable ∷ [];
+      tables = (0, done 1 6 4 1) ∷ (1, done 1 5 2 1) ∷ [];
       survivors = [];
       lists = [];
       rows = [];
@@ -91,8 +102,8 @@ graphs =
     -- §4: each name has a set of its own, the first name's in the low bits
     ∷ record {
       sheet = ascii "v w k f g\nname name mark field field\ngoal EX{f}(v&k)&EX{g}(w&!k)\n";
-      verdict = Open 2 24 ∷ [];
-      tables = (2, Done 1 10 10 0) ∷ [];
+      verdict = open' 2 24 ∷ [];
+      tables = (2, done 1 10 10 0) ∷ [];
       survivors = [];
       lists = [];
       rows = [];
@@ -103,19 +114,19 @@ graphs =
     -- document 02 §3: a declared value that does not occur is in the lean, and every type at start holds exactly one
     ∷ record {
       sheet = ascii "thread lock next\nvalue value field\ngoal EX{next}thread\n";
-      verdict = Open 0 5 ∷ [];
-      tables = (0, Done 1 4 4 0) ∷ [];
+      verdict = open' 0 5 ∷ [];
+      tables = (0, done 1 4 4 0) ∷ [];
       survivors = [];
       lists = (0, 1 ∷ 2 ∷ 5 ∷ 6 ∷ []) ∷ [];
       rows = (ascii "thread lock next\n1 0 2\n0 1 0\n", 2 ∷ 2 ∷ []) ∷ [];
       refused = [];
     }
-    ∷ graph (ascii "a b f\nvalue value field\ngoal EX{f}(!a&!b)\n") Unsatisfiable
+    ∷ graph (ascii "a b f\nvalue value field\ngoal EX{f}(!a&!b)\n") unsatisfiable
     -- §3: 15 before 17 before 16, and 14 before 17
     ∷ record {
       sheet = ascii "v a b\nname value value\ngoal v&a\n";
-      verdict = Open 1 3 ∷ [];
-      tables = (1, Done 1 3 3 0) ∷ [];
+      verdict = open' 1 3 ∷ [];
+      tables = (1, done 1 3 3 0) ∷ [];
       survivors = [];
       lists = [];
       rows = [];

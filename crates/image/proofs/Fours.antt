@@ -1,7 +1,7 @@
 -- Words by fours: a loop that joins one word for each number of a word, for four words at once; and a set narrowed by four words a turn, then by one. For any word count. Assumes nothing.
 use mathlib.Core.Path.{◌≡◌, refl, sym, ap, ◌∙◌, subst}
-use mathlib.Core.Bool.{Bool, not, ◌&&◌}
-use mathlib.Core.List.{List}
+use mathlib.Core.Bool.{Bool, true, false, cond, not, ◌&&◌}
+use mathlib.Core.List.{List, [], ◌∷◌}
 use Prim.Native.Nat.{ℕ, ◌+◌, ◌*◌, ◌/◌, ◌^◌, ◌≤◌, ◌<◌}
 use native.Mathlib.Omega.{arith}
 use lib.Bits.{bit_and, bit_or}
@@ -20,18 +20,31 @@ use Rattle.wordset.specs.Below.{any_below}
 use Rattle.wordset.specs.Word.{bit}
 use Rattle.wordset.specs.Words.{member}
 use Rattle.truth.specs.Blocks.{has}
-use Rattle.truth.proofs.BlockLaws.{block-word}
+use Rattle.truth.proofs.BlockLaws.{block-word, word-as}
 use Rattle.truth.proofs.Joining.{Joining, join-end, join-on, join-start}
 use Rattle.truth.proofs.ListWords.{held}
 use Rattle.truth.proofs.Sifting.{less}
-use Rattle.image.specs.Narrowing.{Fours, Narrowed, Stays, joined_four, kept_four}
-use Rattle.image.specs.declared.narrowing.Four.{Four}
+use Rattle.conditions.specs.Entries.{in_some}
+use Rattle.image.specs.Narrowing.{Fours, Narrowed, Stays, joined_four, kept_four, not_all, passing}
 
 -- ---- four words joined
 
 -- a word of a block, by its place
 pub word-here : (w : ℕ) (ws : List ℕ) (i k q : ℕ) → q ≡ i * w + k → get_or ws q 0 < 2 ^ 64 → Answers (has w ws i) k (get_or ws q 0)
 word-here w ws i k q e = subst (λ (n : ℕ). get_or ws n 0 < 2 ^ 64 → Answers (has w ws i) k (get_or ws n 0)) (sym e) (block-word w ws i k)
+
+-- an entry's types, or those that it has not
+abbrev pub turned_has : ℕ → List ℕ → Bool → ℕ → ℕ → Bool
+turned_has w cw lack i t = cond lack (not (has w cw i t)) (has w cw i t)
+
+-- those that pass for one of the entries r
+pub turned_passing : (w : ℕ) (cw : List ℕ) (r : ℕ) (lack : Bool) (t : ℕ) → any_below 64 (λ i. bit r i && turned_has w cw lack i t) ≡ passing w cw r lack t
+unfolding passing not_all in_some
+turned_passing w cw r true t = refl
+turned_passing w cw r false t = refl
+
+pub fours-as : {P Q : ℕ → Bool} {k : ℕ} {x : List ℕ} → ((t : ℕ) → P t ≡ Q t) → Fours P k x → Fours Q k x
+fours-as e f = record { a = word-as e f.a; b = word-as e f.b; c = word-as e f.c; d = word-as e f.d }
 
 pub record Joins (P : ℕ → ℕ → Bool) (r k rest a b c d : ℕ) : Type 0 where
   pub first : Joining P r k rest a
@@ -48,7 +61,7 @@ module _ {P : ℕ → ℕ → Bool} {r k : ℕ} where
         → Answers (P (count_trailing_zeros 64 rest)) (k + 2) z → Answers (P (count_trailing_zeros 64 rest)) (k + 3) v → Joins P r k (less rest) (bit_or a x) (bit_or b y) (bit_or c z) (bit_or d v)
     joins-on n f g h i = record { first = join-on s.first n f; second = join-on s.second n g; third = join-on s.third n h; fourth = join-on s.fourth n i }
 
-    pub joins-end : rest ≡ 0 → Fours (λ t. any_below 64 (λ i. bit r i && P i t)) k (record { a = a; b = b; c = c; d = d })
+    pub joins-end : rest ≡ 0 → Fours (λ t. any_below 64 (λ i. bit r i && P i t)) k (a ∷ b ∷ c ∷ d ∷ [])
     joins-end e = record { a = join-end s.first e; b = join-end s.second e; c = join-end s.third e; d = join-end s.fourth e }
 
 -- ---- a set narrowed: those that pass R stay
@@ -67,7 +80,7 @@ module _ {R : ℕ → Bool} {d : List ℕ} {w : ℕ} where
       let a = and-answers (subst (Answers (member d) k) (sym e) (next-answers s.fill (rw e at f))) r in
       subst (λ (j : ℕ). Narrowing R d w (set l k (bit_and y x)) (bit_or any (bit_and y x)) j) (sym q) (pack-on s h a a)
 
-  pub narrow-four : {l : List ℕ} {any k : ℕ} {x : Four} → Narrowing R d w l any k → k + 4 ≤ w → ((i : ℕ) → get_or d i 0 < 2 ^ 64) → Fours R k x → Narrowing R d w (kept_four l k x) (joined_four l k x any) (k + 4)
+  pub narrow-four : {l : List ℕ} {any k : ℕ} {x : List ℕ} → Narrowing R d w l any k → k + 4 ≤ w → ((i : ℕ) → get_or d i 0 < 2 ^ 64) → Fours R k x → Narrowing R d w (kept_four l k x) (joined_four l k x any) (k + 4)
   narrow-four {l} {any} {k} {x} s h f r =
       narrow-on (narrow-on (narrow-on (narrow-on s (omega arith) refl refl (small k (omega arith)) r.a)
       (omega arith) (omega arith) (sym (at₁ (k + 1) (omega arith))) (small (k + 1) (omega arith)) r.b)
@@ -79,22 +92,22 @@ module _ {R : ℕ → Bool} {d : List ℕ} {w : ℕ} where
       small i g = subst (λ (n : ℕ). n < 2 ^ 64) (sym (ap (λ (m : List ℕ). get_or m i 0) s.fill.is ∙ filled-past _ d k i g)) (f i)
 
       l₁ : List ℕ
-      l₁ = set l k (bit_and (get_or l k 0) x.a)
+      l₁ = set l k (bit_and (get_or l k 0) (get_or x 0 0))
 
       l₂ : List ℕ
-      l₂ = set l₁ (k + 1) (bit_and (get_or l (k + 1) 0) x.b)
+      l₂ = set l₁ (k + 1) (bit_and (get_or l (k + 1) 0) (get_or x 1 0))
 
       l₃ : List ℕ
-      l₃ = set l₂ (k + 2) (bit_and (get_or l (k + 2) 0) x.c)
+      l₃ = set l₂ (k + 2) (bit_and (get_or l (k + 2) 0) (get_or x 2 0))
 
       at₁ : (j : ℕ) → k < j → get_or l₁ j 0 ≡ get_or l j 0
-      at₁ j g = get_or-set_other l k j (bit_and (get_or l k 0) x.a) 0 (λ e. omega (arith, e, g))
+      at₁ j g = get_or-set_other l k j (bit_and (get_or l k 0) (get_or x 0 0)) 0 (λ e. omega (arith, e, g))
 
       at₂ : (j : ℕ) → k + 1 < j → get_or l₂ j 0 ≡ get_or l j 0
-      at₂ j g = get_or-set_other l₁ (k + 1) j (bit_and (get_or l (k + 1) 0) x.b) 0 (λ e. omega (arith, e, g)) ∙ at₁ j (omega arith)
+      at₂ j g = get_or-set_other l₁ (k + 1) j (bit_and (get_or l (k + 1) 0) (get_or x 1 0)) 0 (λ e. omega (arith, e, g)) ∙ at₁ j (omega arith)
 
       at₃ : (j : ℕ) → k + 2 < j → get_or l₃ j 0 ≡ get_or l j 0
-      at₃ j g = get_or-set_other l₂ (k + 2) j (bit_and (get_or l (k + 2) 0) x.c) 0 (λ e. omega (arith, e, g)) ∙ at₂ j (omega arith)
+      at₃ j g = get_or-set_other l₂ (k + 2) j (bit_and (get_or l (k + 2) 0) (get_or x 2 0)) 0 (λ e. omega (arith, e, g)) ∙ at₂ j (omega arith)
 
   -- so far
   pub narrow-part : {l : List ℕ} {any k n : ℕ} → Narrowing R d w l any k → k ≡ n → Narrowed R n d l any

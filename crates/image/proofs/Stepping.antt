@@ -50,9 +50,6 @@ pub record Moded (F : ℕ → ℕ → Bool) (w a : ℕ) (d₀ rest₀ d rest : L
   pub is : (t : ℕ) → t < w * 64 → (member d t && not (any_below 16 (λ j. has_mode left j && F j t))) ≡ (member d₀ t && not (any_below 16 (λ j. has_mode a j && F j t)))
 
 module _ {F : ℕ → ℕ → Bool} {w a : ℕ} {d₀ rest₀ : List ℕ} where
-  pub mode-start : a < 65536 → Moded F w a d₀ rest₀ d₀ rest₀ a
-  mode-start h = record { fits = omega arith; long = refl; long_rest = refl; is = λ t l. refl }
-
   module _ {d rest : List ℕ} {left : ℕ} (s : Moded F w a d₀ rest₀ d rest left) where
     pub mode-low : (left ≡ 0 → ⊥) → count_trailing_zeros 64 left < 16
     mode-low n = (lowest 16 left (omega arith) s.fits n).0

@@ -11,13 +11,11 @@ pub fn pick(dst: &mut [u64], src: &[u64], tw: &[u64], w: usize, i: usize) -> boo
     ensures value { result ≡ any_below (w * 64) (λ t. member src.now t && has w tw.now i t) }
 {
     let mut any: u64 = 0;
-    let mut k = 0;
-    while k < w {
+    for k in 0..w {
         let at = i * w + k;
         let x = src[k] & tw[at];
         dst[k] = x;
-        any = any | x;
-        k += 1;
+        any |= x;
     }
     any != 0
 }
@@ -27,11 +25,9 @@ pub fn pick_less(dst: &mut [u64], src: &[u64], u: &[u64], tw: &[u64], w: usize, 
     requires { (w ≤ length dst.old) × (w ≤ length src.now) × (w ≤ length u.now) × (i * w + w ≤ length tw.now) }
     ensures { dst.new ≡ packed w (λ t. (member src.now t && not (member u.now t)) && has w tw.now i t) dst.old }
 {
-    let mut k = 0;
-    while k < w {
+    for k in 0..w {
         let at = i * w + k;
         dst[k] = (src[k] & !u[k]) & tw[at];
-        k += 1;
     }
 }
 
@@ -40,11 +36,9 @@ pub fn omit(dst: &mut [u64], src: &[u64], tw: &[u64], w: usize, i: usize)
     requires { (w ≤ length dst.old) × (w ≤ length src.now) × (i * w + w ≤ length tw.now) }
     ensures { dst.new ≡ packed w (λ t. member src.now t && not (has w tw.now i t)) dst.old }
 {
-    let mut k = 0;
-    while k < w {
+    for k in 0..w {
         let at = i * w + k;
         dst[k] = src[k] & !tw[at];
-        k += 1;
     }
 }
 
@@ -54,11 +48,9 @@ pub fn meet(a: &[u64], b: &[u64], tw: &[u64], w: usize, i: usize) -> bool
     ensures { result ≡ any_below (w * 64) (λ t. (member a.now t && member b.now t) && has w tw.now i t) }
 {
     let mut any: u64 = 0;
-    let mut k = 0;
-    while k < w {
+    for k in 0..w {
         let at = i * w + k;
-        any = any | ((a[k] & b[k]) & tw[at]);
-        k += 1;
+        any |= (a[k] & b[k]) & tw[at];
     }
     any != 0
 }
@@ -70,14 +62,12 @@ pub fn release(dst: &mut [u64], tw: &[u64], w: usize, i: usize, u: &[u64]) -> bo
     ensures value { result ≡ any_below (w * 64) (λ t. member dst.old t && (has w tw.now i t && not (member u.now t))) }
 {
     let mut any: u64 = 0;
-    let mut k = 0;
-    while k < w {
+    for k in 0..w {
         let at = i * w + k;
         let x = tw[at] & !u[k];
         let y = dst[k];
         dst[k] = y & !x;
-        any = any | (y & x);
-        k += 1;
+        any |= y & x;
     }
     any != 0
 }

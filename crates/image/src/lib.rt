@@ -33,7 +33,7 @@ fn join_if(x: u64, y: u64, on: bool) -> u64
 fn partners(r: u64) -> u64
     ensures { (c : ℕ) → c < 64 → bit result c ≡ bit r ((c + 32) % 64) }
 {
-    (r >> 32) | (r << 32)
+    r.rotate_right(32)
 }
 
 // Of the entries a, those that have type 64k + b.
@@ -44,7 +44,7 @@ fn refusal_set(cw: &[u64], w: usize, a: u64, k: usize, b: usize) -> u64
     let mut acc: u64 = 0;
     let mut rest = a;
     while rest != 0 {
-        let c = u64::trailing_zeros(rest) as usize;
+        let c = rest.trailing_zeros() as usize;
         let next = rest & (rest - 1);
         acc = join_if(acc, rest & !next, (cw[c * w + k] >> b) & 1 == 1);
         rest = next;
@@ -74,19 +74,20 @@ fn smaller(rest: &[u64], cw: &[u64], a: u64, w: usize, r: u64, from: usize) -> u
     ensures { Refused w cw.now a rest.now result }
 {
     let mut s = r;
-    let mut k = from;
-    while k < w {
-        if s == 0 {
-            return s;
-        }
-        if s & (s - 1) == 0 {
-            return s;
-        }
-        let x = fewer_word(cw, w, a, s, k, rest[k]);
-        if x == 0 {
-            k += 1;
-        } else {
-            s = refusal_set(cw, w, a, k, u64::trailing_zeros(x) as usize);
+    for k in from..w {
+        // The word is asked again after it gave a type: another of it may refuse less yet.
+        loop {
+            if s == 0 {
+                return s;
+            }
+            if s & (s - 1) == 0 {
+                return s;
+            }
+            let x = fewer_word(cw, w, a, s, k, rest[k]);
+            if x == 0 {
+                break;
+            }
+            s = refusal_set(cw, w, a, k, x.trailing_zeros() as usize);
         }
     }
     s
@@ -124,10 +125,8 @@ fn exceeds(rest: &[u64], cw: &[u64], w: usize, e: usize) -> bool
     ensures { result ≡ any_below (w * 64) (λ t. member rest.now t && not (has w cw.now e t)) }
 {
     let mut any: u64 = 0;
-    let mut k = 0;
-    while k < w {
-        any = any | (rest[k] & !cw[e * w + k]);
-        k += 1;
+    for k in 0..w {
+        any |= rest[k] & !cw[e * w + k];
     }
     any != 0
 }
@@ -173,7 +172,7 @@ pub fn drop_linked(
 {
     let mut left = a;
     while left != 0 {
-        let m = u64::trailing_zeros(left) as usize;
+        let m = left.trailing_zeros() as usize;
         wordset::less(rest, src, u, w);
         if exceeds(rest, cw, w, 24 + m % 8 + m / 8 * 32) {
             wordset::less(v, src, src, w);
@@ -182,6 +181,6 @@ pub fn drop_linked(
         if !drain(v, rest, cw, cw[w * 64 + m], w) {
             return;
         }
-        left = left & (left - 1);
+        left &= left - 1;
     }
 }

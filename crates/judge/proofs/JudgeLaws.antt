@@ -2,6 +2,7 @@
 use mathlib.Core.Path.{◌≡◌, refl, sym, ap, ap₂, ◌∙◌, subst}
 use mathlib.Core.List.{List, [], ◌∷◌}
 use mathlib.Core.Logic.{◌⊎◌, inl, inr}
+use Rattle.std.specs.Prelude.{Option, Some, None}
 use Prim.Native.Nat.{ℕ, zero, suc, ◌+◌, ◌*◌, ◌^◌, ◌≤◌, ◌<◌}
 use native.Mathlib.Omega.{arith}
 use native.Mathlib.Decide.{dec_le}
@@ -20,29 +21,27 @@ use Rattle.tableau.specs.Families.{Survivors}
 use Rattle.start.specs.Starts.{Based, in_base, start_list}
 use Rattle.truth.specs.Tables.{form}
 use Rattle.goal.specs.Goals.{first_of}
-use Rattle.goal.specs.declared.Found.{Found}
-use Rattle.goal.specs.declared.Found.TheVariants.{At, Nothing}
 use Rattle.tableau.proofs.TableWords.{start-ascend, start-below, survivors-list}
 use Rattle.tableau.specs.Matches.{Matches}
 use Rattle.tableau.proofs.TableauLaws.{surviving-types}
-use Rattle.judge.specs.Judged.{goals_at, Room, Judged, opens, closes, verdict_of}
+use Rattle.judge.specs.Judged.{goals_at, Judged, opens, closes, verdict_of}
 use Rattle.judge.specs.declared.Verdict.{Verdict}
 use Rattle.judge.specs.declared.Verdict.TheVariants.{Open, Unsatisfiable}
 
 -- ---- one naming
 
-first-none : (l : List ℕ) → first_of l ≡ Nothing → l ≡ []
+first-none : (l : List ℕ) → first_of l ≡ None → l ≡ []
 unfolding first_of
 first-none [] e = refl
-first-none (t ∷ ts) e = absurd (let z : ◌≡◌ {A = ℕ} 0 1 = cc in omega arith)
+first-none (t ∷ ts) e = absurd cc
 
-first_some : (l : List ℕ) (t : ℕ) → first_of l ≡ At t → (ts : List ℕ) × (l ≡ t ∷ ts)
+first_some : (l : List ℕ) (t : ℕ) → first_of l ≡ Some t → (ts : List ℕ) × (l ≡ t ∷ ts)
 unfolding first_of
-first_some [] t e = absurd (let z : ◌≡◌ {A = ℕ} 0 1 = cc in omega arith)
+first_some [] t e = absurd cc
 first_some (u ∷ us) t e = let i : u ≡ t = cc in (us, ap (λ x. x ∷ us) i)
 
 -- what is found in a store that holds the surviving types
-pub found-is : (ms ln : List ℕ) (w : ℕ) (base names : List ℕ) (goal r : ℕ) (d x : List ℕ) (a : Found) → w ≤ length d
+pub found-is : (ms ln : List ℕ) (w : ℕ) (base names : List ℕ) (goal r : ℕ) (d x : List ℕ) (a : Option ℕ) → w ≤ length d
     → x ≡ packed w (λ t. elem t (Survivors ms ln (start_list w base names (length ln) r))) d
     → a ≡ first_of (keep (true_at ms ln goal) (list_of w x))
     → a ≡ first_of (goals_at ms ln w base names goal r)
@@ -56,60 +55,22 @@ pub record Judging (goals : ℕ → List ℕ) (n r : ℕ) : Type 0 where
   pub within : r ≤ n
   pub none : (q : ℕ) → q < r → goals q ≡ []
 
--- the stores keep their lengths
-pub record Kept (first second copy todo v rest first' second' copy' todo' v' rest' : List ℕ) : Type 0 where
-  pub first-long : length first' ≡ length first
-  pub second-long : length second' ≡ length second
-  pub copy-long : length copy' ≡ length copy
-  pub todo-long : length todo' ≡ length todo
-  pub v-long : length v' ≡ length v
-  pub rest-long : length rest' ≡ length rest
-
 module _ {goals : ℕ → List ℕ} {n : ℕ} where
-  pub judge-start : Judging goals n 0
-  judge-start = record { within = omega arith; none = λ q h. absurd (omega arith) }
-
   pub judge-moved : {r q : ℕ} → Judging goals n r → q ≡ r → Judging goals n q
   judge-moved j e = subst (λ k. Judging goals n k) (sym e) j
 
-  pub judge-next : {r : ℕ} → Judging goals n r → r < n → first_of (goals r) ≡ Nothing → Judging goals n (r + 1)
+  pub judge-next : {r : ℕ} → Judging goals n r → r < n → first_of (goals r) ≡ None → Judging goals n (r + 1)
   judge-next {r} j h e = record { within = omega arith; none = λ q l. go q (top q r (omega arith)) }
     where
       go : (q : ℕ) → (q ≡ r) ⊎ (q < r) → goals q ≡ []
       go q (inl i) = subst (λ k. goals k ≡ []) (sym i) (first-none (goals r) e)
       go q (inr l) = j.none q l
 
-  pub judge-open : {r t : ℕ} → Judging goals n r → r < n → first_of (goals r) ≡ At t → Judged goals n (Open r t)
+  pub judge-open : {r t : ℕ} → Judging goals n r → r < n → first_of (goals r) ≡ Some t → Judged goals n (Open r t)
   judge-open j h e = opens h j.none e
 
   pub judge-end : {r : ℕ} → Judging goals n r → n ≤ r → Judged goals n Unsatisfiable
   judge-end {r} j h = closes (λ q l. j.none q (omega arith))
-
--- ---- the stores keep their room
-
-pub room-kept : {w : ℕ} {first second copy todo v rest first' second' copy' todo' v' rest' : List ℕ} → Room w first second copy todo v rest → Kept first second copy todo v rest first' second' copy' todo' v' rest' → Room w first' second' copy' todo' v' rest'
-room-kept {w} r k = record {
-  first-room = subst (λ n. w ≤ n) (sym k.first-long) r.first-room;
-  second-room = subst (λ n. w ≤ n) (sym k.second-long) r.second-room;
-  copy-room = subst (λ n. w ≤ n) (sym k.copy-long) r.copy-room;
-  todo-room = subst (λ n. w ≤ n) (sym k.todo-long) r.todo-room;
-  v-room = subst (λ n. w ≤ n) (sym k.v-long) r.v-room;
-  rest-room = subst (λ n. w ≤ n) (sym k.rest-long) r.rest-room;
-}
-
-pub kept-start : {first second copy todo v rest : List ℕ} → Kept first second copy todo v rest first second copy todo v rest
-kept-start = record { first-long = refl; second-long = refl; copy-long = refl; todo-long = refl; v-long = refl; rest-long = refl }
-
-pub kept_more : {first second copy todo v rest first' second' copy' todo' v' rest' first'' second'' copy'' todo'' v'' rest'' : List ℕ} → Kept first second copy todo v rest first' second' copy' todo' v' rest' → Kept first' second' copy' todo' v' rest' first'' second'' copy'' todo'' v'' rest''
-    → Kept first second copy todo v rest first'' second'' copy'' todo'' v'' rest''
-kept_more a b = record {
-  first-long = b.first-long ∙ a.first-long;
-  second-long = b.second-long ∙ a.second-long;
-  copy-long = b.copy-long ∙ a.copy-long;
-  todo-long = b.todo-long ∙ a.todo-long;
-  v-long = b.v-long ∙ a.v-long;
-  rest-long = b.rest-long ∙ a.rest-long;
-}
 
 -- ---- the verdict
 
@@ -121,7 +82,7 @@ module _ (S : Tableau) (goal : Form) where
       ap (λ l. elim l as (λ x. Ctl.Verdict) [ [] ↦ verdict_over S goal (count_from (suc k) n) | t ∷ ts ↦ Ctl.open' k t ]) (h k (omega arith))
       ∙ over_none (suc k) n (λ q l. h q (omega arith))
 
-  over-open : (k n r t : ℕ) → k ≤ r → r < k + n → ((q : ℕ) → q < r → goal_types S goal q ≡ []) → first_of (goal_types S goal r) ≡ At t → verdict_over S goal (count_from k n) ≡ Ctl.open' r t
+  over-open : (k n r t : ℕ) → k ≤ r → r < k + n → ((q : ℕ) → q < r → goal_types S goal q ≡ []) → first_of (goal_types S goal r) ≡ Some t → verdict_over S goal (count_from k n) ≡ Ctl.open' r t
   unfolding verdict_over
   over-open k zero r t a b h e = absurd (omega arith)
   over-open k (suc n) r t a b h e = go (dec_le r k) (λ l. over-open (suc k) n r t l (omega arith) h e)

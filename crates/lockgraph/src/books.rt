@@ -5,29 +5,26 @@ ghost use Rattle.outcomes.specs.Outcomes.{BookIs};
 
 use fitted::books::fitted_book;
 use limits::{Limits, usual_limits};
-use outcomes::BookAnswer;
+use outcomes::Booked;
+use refusal::Refusal;
 
 // The surviving types under every naming, one after the other in a store.
-pub fn book_within(l: Limits, sheet: &[u8], store: &mut [u64]) -> BookAnswer
+pub fn book_within(l: Limits, sheet: &[u8], store: &mut [u64]) -> Result<Booked, Refusal>
     ensures { BookIs l sheet.now store.old result store.new }
 {
-    let u = frame::set_up(l, sheet);
-    let k = u.refusal;
-    if k != 0 {
-        return BookAnswer::Refused(k);
-    }
+    let u = frame::set_up(l, sheet)?;
     let needed = u.namings as usize * u.words;
     if store.len() < needed {
-        return BookAnswer::Refused(12);
+        return Err(Refusal::Store);
     }
     let namings = u.namings;
     let words = u.words;
     fitted_book(sheet, u, store);
-    BookAnswer::Done { namings, words }
+    Ok(Booked { namings, words })
 }
 
 // The same without limits.
-pub fn book(sheet: &[u8], store: &mut [u64]) -> BookAnswer
+pub fn book(sheet: &[u8], store: &mut [u64]) -> Result<Booked, Refusal>
     ensures { BookIs usual sheet.now store.old result store.new }
 {
     book_within(usual_limits(), sheet, store)

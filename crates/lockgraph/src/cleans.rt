@@ -2,28 +2,19 @@
 ghost use Rattle.limits.specs.Limits.{usual};
 ghost use Rattle.outcomes.specs.Outcomes.{CleanIs};
 
-use clean::Length;
 use limits::{Limits, usual_limits};
-use outcomes::CleanAnswer;
+use refusal::Refusal;
 
-// Lines 1 and 2 as they are, then each formula in canonical print behind `all ` or `goal `, at the beginning of a store.
-pub fn clean_within(l: Limits, sheet: &[u8], store: &mut [u8]) -> CleanAnswer
+// Lines 1 and 2 as they are, then each formula in canonical print behind `all ` or `goal `, at the beginning of a store: how many bytes that is.
+pub fn clean_within(l: Limits, sheet: &[u8], store: &mut [u8]) -> Result<usize, Refusal>
     ensures { CleanIs l sheet.now store.old result store.new }
 {
-    let reading = limits::read(l, sheet);
-    let refusal = reading.refusal;
-    let k = reader::number(refusal);
-    if k != 0 {
-        return CleanAnswer::Refused(k);
-    }
-    let Length::Bytes(length) = clean::write_clean(sheet, reading, store) else {
-        return CleanAnswer::Refused(18);
-    };
-    CleanAnswer::Done { length }
+    let reading = limits::read(l, sheet)?;
+    clean::write_clean(sheet, reading, store).ok_or(Refusal::Clean)
 }
 
 // The same without limits.
-pub fn clean(sheet: &[u8], store: &mut [u8]) -> CleanAnswer
+pub fn clean(sheet: &[u8], store: &mut [u8]) -> Result<usize, Refusal>
     ensures { CleanIs usual sheet.now store.old result store.new }
 {
     clean_within(usual_limits(), sheet, store)

@@ -4,18 +4,21 @@ ghost use Rattle.outcomes.specs.Outcomes.{ListIs};
 
 use fitted::tables::fitted_table;
 use limits::{Limits, usual_limits};
-use outcomes::ListAnswer;
-use outcomes::refusals::{naming_refusal, or_else};
+use refusal::Refusal;
 
 // The surviving types under a naming as numbers at the beginning of a store: the fewest true lean places first, among equals the smaller
-// number.
-pub fn list_within(l: Limits, sheet: &[u8], naming: u64, store: &mut [u16]) -> ListAnswer
+// number. Gives how many they are.
+pub fn list_within(
+    l: Limits,
+    sheet: &[u8],
+    naming: u64,
+    store: &mut [u16],
+) -> Result<usize, Refusal>
     ensures { ListIs l sheet.now naming store.old result store.new }
 {
-    let u = frame::set_up(l, sheet);
-    let k = or_else(u.refusal, naming_refusal(u.namings, naming));
-    if k != 0 {
-        return ListAnswer::Refused(k);
+    let u = frame::set_up(l, sheet)?;
+    if u.namings <= naming {
+        return Err(Refusal::Naming);
     }
     let words = u.words;
     let lean = u.width;
@@ -23,14 +26,13 @@ pub fn list_within(l: Limits, sheet: &[u8], naming: u64, store: &mut [u16]) -> L
     let mut second = [0u64; 64];
     let c = fitted_table(sheet, u, naming, &mut first, &mut second);
     if store.len() < c.left {
-        return ListAnswer::Refused(12);
+        return Err(Refusal::Store);
     }
-    let n = listing::list_types(&first, words, lean, store);
-    ListAnswer::Done { left: n }
+    Ok(listing::list_types(&first, words, lean, store))
 }
 
 // The same without limits.
-pub fn list(sheet: &[u8], naming: u64, store: &mut [u16]) -> ListAnswer
+pub fn list(sheet: &[u8], naming: u64, store: &mut [u16]) -> Result<usize, Refusal>
     ensures { ListIs usual sheet.now naming store.old result store.new }
 {
     list_within(usual_limits(), sheet, naming, store)

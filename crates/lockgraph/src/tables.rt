@@ -5,8 +5,8 @@ ghost use Rattle.outcomes.specs.Demands.{TableDemand2, TableDemand3};
 
 use fitted::tables::fitted_table;
 use limits::{Limits, usual_limits};
-use outcomes::TableAnswer;
-use outcomes::refusals::{naming_refusal, or_else, store_refusal};
+use outcomes::Tabled;
+use refusal::Refusal;
 
 // The surviving types under a naming, in both stores, each of which has room for as many types as the lean's limit allows.
 pub fn table_within(
@@ -15,37 +15,39 @@ pub fn table_within(
     naming: u64,
     first: &mut [u64],
     second: &mut [u64],
-) -> TableAnswer
+) -> Result<Tabled, Refusal>
     ensures table_is { TableIs l sheet.now naming first.old second.old result first.new second.new }
     ensures table_demand2 { TableDemand2 sheet.now naming result first.new second.new }
     ensures table_demand3 { TableDemand3 l sheet.now naming result first.new second.new }
 {
-    let u = frame::set_up(l, sheet);
-    let refusal = u.refusal;
-    if refusal != 0 {
-        return TableAnswer::Refused(refusal);
+    let u = frame::set_up(l, sheet)?;
+    if u.namings <= naming {
+        return Err(Refusal::Naming);
     }
     let needed = prepare::words_for(l.lean);
-    let store = or_else(
-        store_refusal(needed, first.len()),
-        store_refusal(needed, second.len()),
-    );
-    let k = or_else(naming_refusal(u.namings, naming), store);
-    if k != 0 {
-        return TableAnswer::Refused(k);
+    if first.len() < needed {
+        return Err(Refusal::Store);
+    }
+    if second.len() < needed {
+        return Err(Refusal::Store);
     }
     let words = u.words;
     let c = fitted_table(sheet, u, naming, first, second);
-    TableAnswer::Done {
+    Ok(Tabled {
         words,
         start: c.start,
         left: c.left,
         rounds: c.rounds,
-    }
+    })
 }
 
 // The same without limits.
-pub fn table(sheet: &[u8], naming: u64, first: &mut [u64], second: &mut [u64]) -> TableAnswer
+pub fn table(
+    sheet: &[u8],
+    naming: u64,
+    first: &mut [u64],
+    second: &mut [u64],
+) -> Result<Tabled, Refusal>
     ensures table_is { TableIs usual sheet.now naming first.old second.old result first.new second.new }
     ensures table_demand2 { TableDemand2 sheet.now naming result first.new second.new }
     ensures table_demand3 { TableDemand3 usual sheet.now naming result first.new second.new }

@@ -2,7 +2,7 @@
 ghost use Rattle.limits.specs.Limits.{usual};
 ghost use Rattle.lockgraph_c.specs.Told.{BookTold};
 
-use lockgraph::{BookAnswer, Limits};
+use lockgraph::Limits;
 
 // The surviving types under every naming. Through `out`: how many namings there are, and how many words for each.
 #[unsafe(no_mangle)]
@@ -17,9 +17,9 @@ pub extern "C" fn lockgraph_book_within(
 {
     let l = Limits { lean, closure };
     match lockgraph::book_within(l, sheet, store) {
-        BookAnswer::Refused(k) => k,
-        BookAnswer::Done { namings, words } => {
-            *out = [namings, words as u64];
+        Err(e) => e.number(),
+        Ok(b) => {
+            *out = [b.namings, b.words as u64];
             0
         }
     }

@@ -2,7 +2,7 @@
 ghost use Rattle.limits.specs.Limits.{usual};
 ghost use Rattle.lockgraph_c.specs.Told.{CleanTold};
 
-use lockgraph::{CleanAnswer, Limits};
+use lockgraph::Limits;
 
 // The sheet written clean into a store. Through `out`: how many bytes it has.
 #[unsafe(no_mangle)]
@@ -17,9 +17,9 @@ pub extern "C" fn lockgraph_clean_within(
 {
     let l = Limits { lean, closure };
     match lockgraph::clean_within(l, sheet, store) {
-        CleanAnswer::Refused(k) => k,
-        CleanAnswer::Done { length } => {
-            *out = [length as u64];
+        Err(e) => e.number(),
+        Ok(long) => {
+            *out = [long as u64];
             0
         }
     }

@@ -15,15 +15,14 @@ pub extern "C" fn lockgraph_goal_within(
     ensures { GoalTold (record { lean = lean; closure = closure }) sheet.now out.old result out.new }
 {
     let l = Limits { lean, closure };
-    let k = lockgraph::refusal_within(l, sheet);
-    if 0 < k {
-        return k;
+    if let Some(e) = lockgraph::refusal_within(l, sheet) {
+        return e.number();
     }
     let goal = layout::last_text(sheet, layout::third_line(sheet));
     let start = goal.start;
     let long = goal.end - start;
     *out = [start as u64, long as u64];
-    k
+    0
 }
 
 // The same without limits.

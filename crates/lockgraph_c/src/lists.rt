@@ -2,7 +2,7 @@
 ghost use Rattle.limits.specs.Limits.{usual};
 ghost use Rattle.lockgraph_c.specs.Told.{ListTold};
 
-use lockgraph::{Limits, ListAnswer};
+use lockgraph::Limits;
 
 // The surviving types under a naming as numbers. Through `out`: how many they are.
 #[unsafe(no_mangle)]
@@ -18,8 +18,8 @@ pub extern "C" fn lockgraph_list_within(
 {
     let l = Limits { lean, closure };
     match lockgraph::list_within(l, sheet, naming, store) {
-        ListAnswer::Refused(k) => k,
-        ListAnswer::Done { left } => {
+        Err(e) => e.number(),
+        Ok(left) => {
             *out = [left as u64];
             0
         }

@@ -2,7 +2,7 @@
 ghost use Rattle.limits.specs.Limits.{usual};
 ghost use Rattle.lockgraph_c.specs.Told.{SnapshotTold};
 
-use lockgraph::{Limits, SnapshotAnswer};
+use lockgraph::Limits;
 
 // At which nodes of a snapshot the goal and the globals hold, as a byte of the row for each. Through `out`: how many nodes there are.
 #[unsafe(no_mangle)]
@@ -18,8 +18,8 @@ pub extern "C" fn lockgraph_snapshot_within(
 {
     let l = Limits { lean, closure };
     match lockgraph::snapshot_within(l, sheet, text, row) {
-        SnapshotAnswer::Refused(k) => k,
-        SnapshotAnswer::Done { nodes } => {
+        Err(e) => e.number(),
+        Ok(nodes) => {
             *out = [nodes as u64];
             0
         }

@@ -3,7 +3,7 @@ ghost use Rattle.std.specs.Prelude.{◌≡◌};
 ghost use Rattle.limits.specs.Limits.{usual};
 ghost use Rattle.lockgraph_c.specs.Told.{TableTold, written_last};
 
-use lockgraph::{Limits, TableAnswer};
+use lockgraph::Limits;
 
 // Which store Table hands back: 1 for the first, 2 for the second.
 fn written_last(rounds: usize) -> u64
@@ -27,15 +27,16 @@ pub extern "C" fn lockgraph_table_within(
 {
     let l = Limits { lean, closure };
     match lockgraph::table_within(l, sheet, naming, first, second) {
-        TableAnswer::Refused(k) => k,
-        TableAnswer::Done {
-            words,
-            start,
-            left,
-            rounds,
-        } => {
-            let last = written_last(rounds);
-            *out = [words as u64, start as u64, left as u64, rounds as u64, last];
+        Err(e) => e.number(),
+        Ok(t) => {
+            let last = written_last(t.rounds);
+            *out = [
+                t.words as u64,
+                t.start as u64,
+                t.left as u64,
+                t.rounds as u64,
+                last,
+            ];
             0
         }
     }

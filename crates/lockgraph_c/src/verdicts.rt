@@ -2,7 +2,7 @@
 ghost use Rattle.limits.specs.Limits.{usual};
 ghost use Rattle.lockgraph_c.specs.Told.{VerdictTold};
 
-use lockgraph::{Limits, VerdictAnswer};
+use lockgraph::{Limits, Verdict};
 
 // Whether the goal is open or unsatisfiable. Through `out`: 1, the naming and the type where it is open; 2, 0, 0 where it is unsatisfiable.
 #[unsafe(no_mangle)]
@@ -16,12 +16,12 @@ pub extern "C" fn lockgraph_verdict_within(
 {
     let l = Limits { lean, closure };
     match lockgraph::verdict_within(l, sheet) {
-        VerdictAnswer::Refused(k) => k,
-        VerdictAnswer::Open { naming, least } => {
+        Err(e) => e.number(),
+        Ok(Verdict::Open { naming, least }) => {
             *out = [1, naming, least as u64];
             0
         }
-        VerdictAnswer::Unsatisfiable => {
+        Ok(Verdict::Unsatisfiable) => {
             *out = [2, 0, 0];
             0
         }

@@ -6,8 +6,14 @@ use mathlib.Core.List.{List, [], ◌∷◌, ◌++◌, append_assoc, append-nil}
 use Prim.Native.Nat.{ℕ, ◌+◌, ◌-◌, ◌≤◌, ◌<◌}
 use native.Mathlib.Omega.{arith}
 use native.Mathlib.Numerals.{add-one}
+use Rattle.std.proofs.Common.{Bool, true, false, cond, nat_lt, Option, Some, None, ◌==◌, position}
+use Rattle.std.specs.List.{position_or_len}
+use Rattle.std.proofs.lemmas.Bool.{false≢true}
+use Rattle.std.proofs.lemmas.List.Quantifiers.{position-Some}
+use Rattle.std.proofs.lemmas.List.Sums.{fails_before_first}
+use borrow.Author.Tests.{eq-eqb, eqb-true, ltb-false}
 use lib.ListN.{length, get_or, take, drop, set, length-append, length-set}
-use lib.Seq.{drop-drop, drop-set-lt, length-take-le, get_or-take, take-suc-set, get_or-append_seam}
+use lib.Seq.{drop-drop, drop-set-lt, length-take-le, take-suc-set, get_or-append_seam}
 use Rattle.ctl.specs.Lists.{◌∈◌}
 use Rattle.ctl.specs.Formula.{Form, tru}
 use Rattle.ctl.proofs.ListLaws.{get_d-in}
@@ -15,7 +21,6 @@ use Rattle.members.specs.Members.{Members, Canon, form_of, forms}
 use Rattle.members.specs.Grown.{Ready, Grows, TooMany, Done, Answer, added, full}
 use Rattle.members.proofs.MemberLaws.{forms-length, forms-snoc, forms-keep, forms-mem, member, new-form, members-snoc, unique-snoc}
 use Rattle.members.specs.declared.Added.{Added}
-use Rattle.members.specs.declared.Added.TheVariants.{At, Full}
 
 -- ---- one list of formulas within another
 
@@ -80,6 +85,13 @@ too-many-then {ws} {ws'} {k} {l} l' s o =
 
 -- ---- one word
 
+position-None : (p : ℕ → Bool) (xs : List ℕ) → position p xs ≡ None → length xs ≤ position_or_len p xs
+position-None p xs e = go (nat_lt (position_or_len p xs) (length xs)) refl e
+  where
+    go : (b : Bool) → nat_lt (position_or_len p xs) (length xs) ≡ b → cond b (Some (position_or_len p xs)) None ≡ None → length xs ≤ position_or_len p xs
+    go true h e = let z : ◌≡◌ {A = ℕ} 0 1 = cc in absurd (omega arith)
+    go false h e = ltb-false _ _ h
+
 module _ (tab : List ℕ) (n : ℕ) (r : Ready tab n) (w : ℕ) (c : Canon n w) where
   ws : List ℕ
   ws = take n tab
@@ -91,32 +103,37 @@ module _ (tab : List ℕ) (n : ℕ) (r : Ready tab n) (w : ℕ) (c : Canon n w) 
   canon : Canon (length ws) w
   canon = subst (λ k. Canon k w) (sym size) c
 
-  pub word-found : (i : ℕ) → i < n → get_or tab i 0 ≡ w → Answer tab n tab (form_of (forms (take n tab)) w ∷ []) (form_of (forms (take n tab)) w) (At i n)
+  -- the search for the word in the table finds it
+  pub word-found : {i : ℕ} → position (λ x. x == w) (take n tab) ≡ Some i → Answer tab n tab (form_of (forms (take n tab)) w ∷ []) (form_of (forms (take n tab)) w) (Some (record { index = i; count = n }))
   unfolding ws
-  word-found i h e = added {i = i} {m = n} record {
+  word-found {i} e = added {i = i} {m = n} record {
     up = omega arith;
     room = r.room;
     grows = record {
       members = r.members;
       rest = [];
       front = sym (append-nil ws);
-      has = sub-one (subst (λ p. p ∈ forms ws) is-it (get_d-in tru (forms ws) i (omega (arith, forms-length ws, size))));
+      has = sub-one (subst (λ p. p ∈ forms ws) is-it (get_d-in tru (forms ws) i (omega (arith, forms-length ws, found.0))));
       only = sub-left (forms ws) (form_of (forms ws) w ∷ []);
     };
-    below = h;
+    below = omega (arith, size, found.0);
     is = is-it;
     behind = refl;
   }
     where
-      is-it : get_or (forms ws) i tru ≡ form_of (forms ws) w
-      is-it = member ws r.members i (omega (arith, size)) ∙ ap (form_of (forms ws)) (get_or-take n tab i 0 h ∙ e)
+      found : (i < length ws) × ((get_or ws i 0 == w) ≡ true) × ((k : ℕ) → k < i → (get_or ws k 0 == w) ≡ false)
+      found = position-Some (λ x. x == w) ws i 0 e
 
-  module _ (f : (k : ℕ) → k < n → get_or tab k 0 ≡ w → ⊥) where
+      is-it : get_or (forms ws) i tru ≡ form_of (forms ws) w
+      is-it = member ws r.members i found.0 ∙ ap (form_of (forms ws)) (eqb-true _ _ found.1)
+
+  -- it does not find it
+  module _ (none : position (λ x. x == w) (take n tab) ≡ None) where
     absent : (k : ℕ) → k < length ws → get_or ws k 0 ≡ w → ⊥
     unfolding ws
-    absent k h e = let h' : k < n = omega (arith, size) in f k h' (sym (get_or-take n tab k 0 h') ∙ e)
+    absent k h e = false≢true (sym (fails_before_first (λ x. x == w) ws k 0 (let n = position-None (λ x. x == w) ws none in omega arith)) ∙ eq-eqb _ _ e)
 
-    pub word-new : n < length tab → Answer tab n (set tab n w) (form_of (forms (take n tab)) w ∷ []) (form_of (forms (take n tab)) w) (At n (n + 1))
+    pub word-new : n < length tab → Answer tab n (set tab n w) (form_of (forms (take n tab)) w ∷ []) (form_of (forms (take n tab)) w) (Some (record { index = n; count = n + 1 }))
     unfolding ws
     word-new h = added {i = n} {m = n + 1} record {
       up = omega arith;
@@ -139,7 +156,7 @@ module _ (tab : List ℕ) (n : ℕ) (r : Ready tab n) (w : ℕ) (c : Canon n w) 
         all : forms (take (n + 1) (set tab n w)) ≡ forms ws ++ (form_of (forms ws) w ∷ [])
         all = ap forms to ∙ forms-snoc ws w
 
-    pub word-full : (tab' : List ℕ) → length tab ≤ n → Answer tab n tab' (form_of (forms (take n tab)) w ∷ []) (form_of (forms (take n tab)) w) Full
+    pub word-full : (tab' : List ℕ) → length tab ≤ n → Answer tab n tab' (form_of (forms (take n tab)) w ∷ []) (form_of (forms (take n tab)) w) None
     unfolding ws
     word-full tab' h = full record {
       list = forms ws ++ (form_of (forms ws) w ∷ []);
@@ -149,18 +166,18 @@ module _ (tab : List ℕ) (n : ℕ) (r : Ready tab n) (w : ℕ) (c : Canon n w) 
     }
 
 -- the answer for a formula that is the same
-pub answer-is : {tab : List ℕ} {n : ℕ} {tab' : List ℕ} {f g : Form} {r : Added} → f ≡ g → Answer tab n tab' (f ∷ []) f r → Answer tab n tab' (g ∷ []) g r
+pub answer-is : {tab : List ℕ} {n : ℕ} {tab' : List ℕ} {f g : Form} {r : Option Added} → f ≡ g → Answer tab n tab' (f ∷ []) f r → Answer tab n tab' (g ∷ []) g r
 answer-is {tab} {n} {tab'} {f} {g} {r} e a = subst (λ x. Answer tab n tab' (x ∷ []) x r) e a
 
 module _ {tab : List ℕ} {n : ℕ} {tab' : List ℕ} {l : List Form} {f : Form} where
-  pub was-added : {r : Added} {i m : ℕ} → Answer tab n tab' l f r → r ≡ At i m → Done tab n tab' l f i m
-  was-added {i = i} {m = m} (added {i = j} {m = k} d) e =
-      let ei : j ≡ i = cc in
-      let em : k ≡ m = cc in
-      subst (λ x. Done tab n tab' l f x m) ei (subst (λ y. Done tab n tab' l f j y) em d)
-  was-added {i = i} {m = m} (full o) e = let z : ◌≡◌ {A = ℕ} 0 1 = cc in absurd (omega arith)
+  pub was-added : {r : Option Added} {a : Added} → Answer tab n tab' l f r → r ≡ Some a → Done tab n tab' l f a.index a.count
+  was-added {a = a} (added {i = j} {m = k} d) e =
+      let ei : j ≡ a.index = cc in
+      let em : k ≡ a.count = cc in
+      subst (λ x. Done tab n tab' l f x a.count) ei (subst (λ y. Done tab n tab' l f j y) em d)
+  was-added (full o) e = let z : ◌≡◌ {A = ℕ} 0 1 = cc in absurd (omega arith)
 
-  pub was-full : {r : Added} → Answer tab n tab' l f r → r ≡ Full → TooMany (length tab) (forms (take n tab) ++ l)
+  pub was-full : {r : Option Added} → Answer tab n tab' l f r → r ≡ None → TooMany (length tab) (forms (take n tab) ++ l)
   was-full (added d) e = let z : ◌≡◌ {A = ℕ} 0 1 = cc in absurd (omega arith)
   was-full (full o) e = o
 
@@ -206,7 +223,7 @@ module _ {tab : List ℕ} {n : ℕ} {tab' : List ℕ} {l : List Form} {f : Form}
   pub full-then : (l' : List Form) → TooMany (length tab') (forms (take m tab') ++ l') → TooMany (length tab) (forms (take n tab) ++ (l ++ l'))
   full-then l' o = subst (λ k. TooMany k (forms (take n tab) ++ (l ++ l'))) same (too-many-then l' d.grows o)
 
-  pub answer-then : {tab'' : List ℕ} {l' : List Form} {f' : Form} {a : Added} → Answer tab' m tab'' l' f' a → Answer tab n tab'' (l ++ l') f' a
+  pub answer-then : {tab'' : List ℕ} {l' : List Form} {f' : Form} {a : Option Added} → Answer tab' m tab'' l' f' a → Answer tab n tab'' (l ++ l') f' a
   answer-then {tab''} {l'} {f'} (added {i = j} {m = k} e) = added (done-then e)
   answer-then {tab''} {l'} {f'} (full o) = full (subst (λ k. TooMany k (forms (take n tab) ++ (l ++ l'))) same (too-many-then l' d.grows o))
 
@@ -214,12 +231,12 @@ module _ {tab : List ℕ} {n : ℕ} {tab' : List ℕ} {l : List Form} {f : Form}
 pub done-same : {tab : List ℕ} {n : ℕ} {tab' : List ℕ} {l l' : List Form} {f : Form} {i m : ℕ} → l ⊆ l' → l' ⊆ l → Done tab n tab' l f i m → Done tab n tab' l' f i m
 done-same g h d = record { up = d.up; room = d.room; grows = grows_same g h d.grows; below = d.below; is = d.is; behind = d.behind }
 
-pub answer-same : {tab : List ℕ} {n : ℕ} {tab' : List ℕ} {l l' : List Form} {f : Form} {a : Added} → l ⊆ l' → l' ⊆ l → Answer tab n tab' l f a → Answer tab n tab' l' f a
+pub answer-same : {tab : List ℕ} {n : ℕ} {tab' : List ℕ} {l l' : List Form} {f : Form} {a : Option Added} → l ⊆ l' → l' ⊆ l → Answer tab n tab' l f a → Answer tab n tab' l' f a
 answer-same g h (added d) = added (done-same g h d)
 answer-same {tab = tab} {n = n} {l = l} {l' = l'} g h (full o) = full (too-many-more (sub-both (sub-left (forms (take n tab)) l') (λ p m. Memᴰ.append_right (forms (take n tab)) (g p m))) o)
 
 -- there is no room for some of the formulas
-pub full-more : {tab : List ℕ} {n : ℕ} {tab' : List ℕ} {l : List Form} {f : Form} (l' : List Form) → l' ⊆ l → TooMany (length tab) (forms (take n tab) ++ l') → Answer tab n tab' l f Full
+pub full-more : {tab : List ℕ} {n : ℕ} {tab' : List ℕ} {l : List Form} {f : Form} (l' : List Form) → l' ⊆ l → TooMany (length tab) (forms (take n tab) ++ l') → Answer tab n tab' l f None
 full-more {tab = tab} {n = n} {l = l} l' g o = full (too-many-more (sub-both (sub-left (forms (take n tab)) l) (λ p m. Memᴰ.append_right (forms (take n tab)) (g p m))) o)
 
 pub sub-eq : {k l : List Form} → k ≡ l → k ⊆ l
@@ -227,14 +244,14 @@ sub-eq e p m = subst (λ x. p ∈ x) e m
 
 -- ---- a step that finds no room, and one that ends with the formula of the step before
 
-pub first-full : {tab : List ℕ} {n : ℕ} {tab₁ tab' : List ℕ} {l₁ l : List Form} {f g : Form} {a : Added} → l₁ ⊆ l → Answer tab n tab₁ l₁ f a → a ≡ Full → Answer tab n tab' l g Full
+pub first-full : {tab : List ℕ} {n : ℕ} {tab₁ tab' : List ℕ} {l₁ l : List Form} {f g : Form} {a : Option Added} → l₁ ⊆ l → Answer tab n tab₁ l₁ f a → a ≡ None → Answer tab n tab' l g None
 first-full {l₁ = l₁} h w e = full-more l₁ h (was-full w e)
 
 module _ {tab : List ℕ} {n : ℕ} {tab₁ : List ℕ} {l₁ : List Form} {f₁ : Form} {i₁ n₁ : ℕ} (r : Ready tab n) (d : Done tab n tab₁ l₁ f₁ i₁ n₁) (same : length tab₁ ≡ length tab) where
-  pub rest-full : {tab₂ tab' : List ℕ} {l₂ l : List Form} {f₂ g : Form} {a : Added} → (l₁ ++ l₂) ⊆ l → Answer tab₁ n₁ tab₂ l₂ f₂ a → a ≡ Full → Answer tab n tab' l g Full
+  pub rest-full : {tab₂ tab' : List ℕ} {l₂ l : List Form} {f₂ g : Form} {a : Option Added} → (l₁ ++ l₂) ⊆ l → Answer tab₁ n₁ tab₂ l₂ f₂ a → a ≡ None → Answer tab n tab' l g None
   rest-full {l₂ = l₂} h w e = full-more (l₁ ++ l₂) h (full-then r d same l₂ (was-full w e))
 
-  pub rest-still : {tab₂ : List ℕ} {l₂ l : List Form} {f₂ : Form} {a : Added} {j m : ℕ} → (l₁ ++ l₂) ⊆ l → l ⊆ (l₁ ++ l₂) → Answer tab₁ n₁ tab₂ l₂ f₂ a → a ≡ At j m → Answer tab n tab₂ l f₁ (At i₁ m)
+  pub rest-still : {tab₂ : List ℕ} {l₂ l : List Form} {f₂ : Form} {a : Option Added} {s : Added} → (l₁ ++ l₂) ⊆ l → l ⊆ (l₁ ++ l₂) → Answer tab₁ n₁ tab₂ l₂ f₂ a → a ≡ Some s → Answer tab n tab₂ l f₁ (Some (record { index = i₁; count = s.count }))
   rest-still h k w e = added (done-same h k (done-still r d same (was-added w e)))
 
 -- ---- what a step asks of the table that the one before left
@@ -244,5 +261,5 @@ pub record Then (tab : List ℕ) (n i m : ℕ) : Type 0 where
   pub below : i < m
   pub ready : Ready tab m
 
-pub step_then : {tab : List ℕ} {n : ℕ} {tab₁ : List ℕ} {l : List Form} {f : Form} {a : Added} {i m : ℕ} → Ready tab n → Answer tab n tab₁ l f a → a ≡ At i m → length tab₁ ≡ length tab → Then tab₁ n i m
+pub step_then : {tab : List ℕ} {n : ℕ} {tab₁ : List ℕ} {l : List Form} {f : Form} {a : Option Added} {s : Added} → Ready tab n → Answer tab n tab₁ l f a → a ≡ Some s → length tab₁ ≡ length tab → Then tab₁ n s.index s.count
 step_then r w e k = let d = was-added w e in record { up = d.up; below = d.below; ready = ready-then r d k }

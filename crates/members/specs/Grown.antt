@@ -1,11 +1,10 @@
 -- What stands in a table of members, what a step adds to it, and that it has no room for what it should have. Assumes nothing.
-use Rattle.std.specs.Prelude.{◌≡◌, List, ◌++◌, ℕ, ◌≤◌, ◌<◌, length, get_or, take, drop}
+use Rattle.std.specs.Prelude.{◌≡◌, List, ◌++◌, ℕ, ◌≤◌, ◌<◌, Option, Some, None, length, get_or, take, drop}
 use Rattle.ctl.specs.Lists.{◌∈◌}
 use Rattle.ctl.specs.Formula.{Form, tru}
 use Rattle.ctl.specs.Sorting.{Unique}
 use Rattle.members.specs.Members.{Members, forms}
 use Rattle.members.specs.declared.Added.{Added}
-use Rattle.members.specs.declared.Added.TheVariants.{At, Full}
 
 -- a table that holds n members
 pub record Ready (tab : List ℕ) (n : ℕ) : Type 0 where
@@ -47,6 +46,6 @@ pub record Done (tab : List ℕ) (n : ℕ) (tab' : List ℕ) (l : List Form) (f 
   pub behind : drop m tab' ≡ drop m tab
 
 -- the answer: where f stands, with how many members there are, or that they are more than the table has room for
-pub data Answer (tab : List ℕ) (n : ℕ) (tab' : List ℕ) (l : List Form) (f : Form) : Added → Type 0 where
-  added : {i m : ℕ} → Done tab n tab' l f i m → Answer tab n tab' l f (At i m)
-  full : TooMany (length tab) (forms (take n tab) ++ l) → Answer tab n tab' l f Full
+pub data Answer (tab : List ℕ) (n : ℕ) (tab' : List ℕ) (l : List Form) (f : Form) : Option Added → Type 0 where
+  added : {i m : ℕ} → Done tab n tab' l f i m → Answer tab n tab' l f (Some (record { index = i; count = m }))
+  full : TooMany (length tab) (forms (take n tab) ++ l) → Answer tab n tab' l f None

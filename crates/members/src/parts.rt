@@ -44,13 +44,8 @@ pub fn has_mode(a: u64, m: usize) -> bool
 pub fn mode_of(a: u64) -> usize
     ensures { ((result < 16) × (a ≡ 2 ^ result)) ⊎ ((result ≡ 16) × (single a ≡ true → ⊥)) }
 {
-    let m = u64::trailing_zeros(a) as usize;
-    if m < 16 {
-        if a == 1 << m {
-            return m;
-        }
-    }
-    16
+    let m = a.trailing_zeros() as usize;
+    if m < 16 && a == 1 << m { m } else { 16 }
 }
 
 // The lowest mode of a set that has one.
@@ -61,5 +56,5 @@ pub fn first_mode(a: u64) -> u64
     if a == 0 {
         return 0;
     }
-    u64::trailing_zeros(a) as u64
+    u64::from(a.trailing_zeros())
 }

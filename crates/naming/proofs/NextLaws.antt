@@ -2,7 +2,7 @@
 -- Assumes nothing.
 use mathlib.Core.Path.{◌≡◌, ap, ◌∙◌}
 use mathlib.Core.Bool.{Bool, cond}
-use Prim.Native.Nat.{ℕ, ◌+◌, ◌-◌, ◌≤◌, ◌<◌}
+use Prim.Native.Nat.{ℕ, ◌+◌, ◌<◌}
 use native.Mathlib.Omega.{arith}
 use borrow.Author.Tests.{lt-ltb}
 use Rattle.naming.specs.declared.Naming.{Naming}
@@ -23,9 +23,6 @@ module _ {k : ℕ} (n : Naming) (e : n.count ≡ k) where
   pub in-hand : n.number < n.count → n.number < k
   in-hand h = omega arith
 
-  pub none_left : n.count ≤ n.number → k ≤ n.number
-  none_left h = omega arith
-
 -- ---- the next
 
 module _ (n m : Naming) (e : m ≡ next_of n) where
@@ -34,7 +31,3 @@ module _ (n m : Naming) (e : m ≡ next_of n) where
 
   pub next-number : n.number < n.count → m.number ≡ n.number + 1
   next-number h = ap (λ (x : Naming). x.number) e ∙ ap (λ (t : Bool). cond t (n.number + 1) n.count) (lt-ltb n.number n.count h)
-
-  -- fewer are left
-  pub next-less : n.number < n.count → m.count - m.number < n.count - n.number
-  next-less h = omega (arith, next-number h, ap (λ (x : Naming). x.count) e)

@@ -45,7 +45,7 @@ pub fn advance(n: &mut Naming) -> bool
     n.number < n.count
 }
 
-// The same for a caller that holds the naming by value: loops call this one, and so need no proof by hand.
+// The same by value. Loops call this one: each turn reads the naming in hand and puts the next in its place, with no answer to drop.
 pub fn advanced(n: Naming) -> Naming
     ensures { result ≡ next_of n }
 {

@@ -8,7 +8,7 @@ use native.Mathlib.Numerals.{add-one}
 use native.Mathlib.Omega.{arith}
 use lib.Bits.{bit_or}
 use lib.Dec.{eqb}
-use lib.ListN.{length, get_or}
+use lib.ListN.{get_or}
 use borrow.Author.Tests.{eq-eqb, eqb-true, ne_eqb}
 use Rattle.ctl.proofs.BoolLaws.{true-T}
 use Rattle.ctl.proofs.ListLaws.{below_in}
@@ -19,7 +19,6 @@ use Rattle.members.specs.Members.{arg_w, tag_w}
 use Rattle.wordset.proofs.BitLaws.{bit-none, bit-or, bit-pow}
 use Rattle.wordset.proofs.CompareLaws.{both_ways}
 use Rattle.wordset.specs.Below.{any_below}
-use Rattle.needs.specs.FieldBlocks.{ExFields}
 use Rattle.needs.specs.Needs.{ex_over}
 use Rattle.members.proofs.ModeLaws.{power-same}
 
@@ -58,21 +57,16 @@ module _ (x : ℕ) (g : tag_w x ≡ 6) {a r : ℕ} (ea : a ≡ arg_w x) (m : ((r
 -- ---- all members: the set has the fields of the first i
 
 pub record FieldsSoFar (ms : List ℕ) (i acc : ℕ) : Type 0 where
-  pub within : i ≤ length ms
   pub is : (f : ℕ) → f < 8 → has_mode acc f ≡ any_below i (ex_over ms f)
 
 module _ {ms : List ℕ} where
   pub fields-start : FieldsSoFar ms 0 0
   unfolding any_below
-  fields-start = record { within = omega arith; is = λ f h. none-mode f }
+  fields-start = record { is = λ f h. none-mode f }
 
-  pub fields-on : {i acc : ℕ} (r : ℕ) → FieldsSoFar ms i acc → i < length ms → OfField (get_or ms i 0) r → FieldsSoFar ms (i + 1) (bit_or acc r)
+  pub fields-on : {i acc : ℕ} (r : ℕ) → FieldsSoFar ms i acc → OfField (get_or ms i 0) r → FieldsSoFar ms (i + 1) (bit_or acc r)
   unfolding any_below
-  fields-on {i} {acc} r s h o = record {
-    within = omega arith;
+  fields-on {i} {acc} r s o = record {
     is = λ f l. mode-bit (bit_or acc r) f ∙ bit-or acc r f ∙ ap₂ ◌||◌ (sym (mode-bit acc f) ∙ s.is f l) (sym (mode-bit r f) ∙ o f l)
         ∙ ap (λ n. any_below n (ex_over ms f)) (sym (add-one i));
   }
-
-  pub fields-end : {i acc : ℕ} → FieldsSoFar ms i acc → length ms ≤ i → ExFields ms acc
-  fields-end {i} s h = let w = s.within in let e : i ≡ length ms = omega arith in record { is = λ f l. s.is f l ∙ ap (λ n. any_below n (ex_over ms f)) e }

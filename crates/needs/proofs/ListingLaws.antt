@@ -5,7 +5,7 @@ use mathlib.Core.List.{List}
 use mathlib.Core.Logic.{◌⊎◌, inl, inr}
 use Prim.Native.Nat.{ℕ, ◌+◌, ◌≤◌, ◌<◌}
 use native.Mathlib.Omega.{arith}
-use lib.ListN.{length, get_or, set, take, length-set}
+use lib.ListN.{length, get_or, set, take}
 use lib.Seq.{get_or-set_other, get_or-set_same, get_or-take, length-take-le}
 use borrow.Author.Tests.{eq-eqb}
 use Rattle.ctl.specs.Modes.{has_mode}
@@ -45,93 +45,48 @@ next_le : (r : ℕ) (b : Bool) → Next r b ≤ r + 1
 next_le r true = omega arith
 next_le r false = omega arith
 
-put-length : (ns : List ℕ) (r x : ℕ) (b : Bool) → length (Put ns r x b) ≡ length ns
-put-length ns r x true = length-set ns r x
-put-length ns r x false = refl
-
 -- ---- as the list grows
 
 own-need : (ms : List ℕ) (i : ℕ) → i < length ms → Own (get_or ms i 0) → Need ms (need_of ms i)
 own-need ms i h (by_mode m k l t e) = of-mode i m h k l t e refl
 own-need ms i h (by-until k l) = of-until i h k l refl
 
--- the list in a store as long as the one at the beginning
-pub record Going (ms ns₀ ns : List ℕ) (f i r : ℕ) : Type 0 where
-  pub field_in : f ≤ 8
-  pub member-in : i ≤ length ms
-  pub long : length ns ≡ length ns₀
-  pub list : SoFar ms ns f i r
-
-pub going_start : (ms ns : List ℕ) → Going ms ns ns 0 0 0
-going_start ms ns = record {
-  field_in = omega arith;
-  member-in = omega arith;
-  long = refl;
-  list = record { few = omega arith; only = λ j h. absurd (omega arith); fields = λ g h. absurd (omega arith); members = λ k h. absurd (omega arith) };
-}
-
-pub going-from : {ms ns : List ℕ} {r : ℕ} → SoFar ms ns 8 0 r → Going ms ns ns 8 0 r
-going-from s = record { field_in = omega arith; member-in = omega arith; long = refl; list = s }
-
-module _ {ms ns₀ ns : List ℕ} {f i r : ℕ} (s : Going ms ns₀ ns f i r) (x : ℕ) (h : r < length ns) (b : Bool) where
-  field_put : f < 8 → (a : ℕ) → ExFields ms a → b ≡ has_mode a f → x ≡ field_need (length ms) f → Going ms ns₀ (Put ns r x b) (f + 1) i (Next r b)
+module _ {ms ns : List ℕ} {f i r : ℕ} (s : SoFar ms ns f i r) (x : ℕ) (h : r < length ns) (b : Bool) where
+  field_put : f < 8 → (a : ℕ) → ExFields ms a → b ≡ has_mode a f → x ≡ field_need (length ms) f → SoFar ms (Put ns r x b) (f + 1) i (Next r b)
   field_put l a u eb ex = record {
-    field_in = omega arith;
-    member-in = s.member-in;
-    long = put-length ns r x b ∙ s.long;
-    list = record {
-      few = (let q = s.list.few in let n = next_le r b in omega arith);
-      only = put_only ns r x h ms b s.list.only (λ e. of_field f l ex);
-      fields = λ g m e. go g e (top g f (omega arith));
-      members = λ k m o. kept ns r x h b (need_of ms k) (s.list.members k m o);
-    };
+    few = (let q = s.few in let n = next_le r b in omega arith);
+    only = put_only ns r x h ms b s.only (λ e. of_field f l ex);
+    fields = λ g m e. go g e (top g f (omega arith));
+    members = λ k m o. kept ns r x h b (need_of ms k) (s.members k m o);
   }
     where
       go : (g : ℕ) → any_below (length ms) (ex_over ms g) ≡ true → (g ≡ f) ⊎ (g < f) → Within (Put ns r x b) (Next r b) (field_need (length ms) g)
       go g e (inl q) =
           subst (Within (Put ns r x b) (Next r b)) (ex ∙ ap (field_need (length ms)) (sym q))
           (new ns r x h b (eb ∙ u.is f l ∙ ap (λ k. any_below (length ms) (ex_over ms k)) (sym q) ∙ e))
-      go g e (inr m) = kept ns r x h b (field_need (length ms) g) (s.list.fields g m e)
+      go g e (inr m) = kept ns r x h b (field_need (length ms) g) (s.fields g m e)
 
-  member-put : i < length ms → Asks (get_or ms i 0) b → x ≡ need_of ms i → Going ms ns₀ (Put ns r x b) f (i + 1) (Next r b)
+  member-put : i < length ms → Asks (get_or ms i 0) b → x ≡ need_of ms i → SoFar ms (Put ns r x b) f (i + 1) (Next r b)
   member-put l u ex = record {
-    field_in = s.field_in;
-    member-in = omega arith;
-    long = put-length ns r x b ∙ s.long;
-    list = record {
-      few = (let q = s.list.few in let n = next_le r b in omega arith);
-      only = put_only ns r x h ms b s.list.only (λ e. subst (Need ms) (sym ex) (own-need ms i l (u.on e)));
-      fields = λ g m e. kept ns r x h b (field_need (length ms) g) (s.list.fields g m e);
-      members = λ k m o. go k o (top k i (omega arith));
-    };
+    few = (let q = s.few in let n = next_le r b in omega arith);
+    only = put_only ns r x h ms b s.only (λ e. subst (Need ms) (sym ex) (own-need ms i l (u.on e)));
+    fields = λ g m e. kept ns r x h b (field_need (length ms) g) (s.fields g m e);
+    members = λ k m o. go k o (top k i (omega arith));
   }
     where
       go : (k : ℕ) → Own (get_or ms k 0) → (k ≡ i) ⊎ (k < i) → Within (Put ns r x b) (Next r b) (need_of ms k)
       go k o (inl q) =
           subst (Within (Put ns r x b) (Next r b)) (ex ∙ ap (need_of ms) (sym q))
           (new ns r x h b (u.all (subst (λ j. Own (get_or ms j 0)) q o)))
-      go k o (inr m) = kept ns r x h b (need_of ms k) (s.list.members k m o)
+      go k o (inr m) = kept ns r x h b (need_of ms k) (s.members k m o)
 
-going-as : {ms ns₀ ns ns' : List ℕ} {f i r r' : ℕ} → r' ≡ r → ns' ≡ ns → Going ms ns₀ ns f i r → Going ms ns₀ ns' f i r'
-going-as {ms} {ns₀} {ns} {ns'} {f} {i} {r} {r'} e q g = subst (λ n. Going ms ns₀ n f i r') (sym q) (subst (λ k. Going ms ns₀ ns f i k) (sym e) g)
-
-module _ {ms ns₀ ns : List ℕ} {f i r : ℕ} (s : Going ms ns₀ ns f i r) (h : r < length ns) {x : ℕ} {b : Bool} {ns' : List ℕ} {r' : ℕ}
+module _ {ms ns : List ℕ} {f i r : ℕ} (s : SoFar ms ns f i r) (h : r < length ns) {x : ℕ} {b : Bool} {ns' : List ℕ} {r' : ℕ}
     (put : (r' ≡ cond b (r + 1) r) × (ns' ≡ cond b (set ns r x) ns)) where
-  pub field-on : f < 8 → {a : ℕ} → ExFields ms a → b ≡ has_mode a f → x ≡ field_need (length ms) f → Going ms ns₀ ns' (f + 1) i r'
-  field-on l {a} u eb ex = going-as put.0 put.1 (field_put s x h b l a u eb ex)
+  pub field-on : f < 8 → {a : ℕ} → ExFields ms a → b ≡ has_mode a f → x ≡ field_need (length ms) f → SoFar ms ns' (f + 1) i r'
+  field-on l {a} u eb ex = rw (put.0, put.1) (field_put s x h b l a u eb ex)
 
-  pub member-on : i < length ms → Asks (get_or ms i 0) b → x ≡ need_of ms i → Going ms ns₀ ns' f (i + 1) r'
-  member-on l u ex = going-as put.0 put.1 (member-put s x h b l u ex)
-
--- there is room for one more
-pub going-room : {ms ns₀ ns : List ℕ} {f i r : ℕ} → Going ms ns₀ ns f i r → f + i < length ns₀ → r < length ns
-going-room s h = let l = s.long in let q = s.list.few in omega arith
-
-pub fields-done : {ms ns₀ ns : List ℕ} {f r : ℕ} → Going ms ns₀ ns f 0 r → 8 ≤ f → SoFar ms ns 8 0 r
-fields-done {ms} {ns₀} {ns} {f} {r} s h = let l = s.field_in in let e : f ≡ 8 = omega arith in subst (λ k. SoFar ms ns k 0 r) e s.list
-
-pub members-done : {ms ns₀ ns : List ℕ} {i r : ℕ} → Going ms ns₀ ns 8 i r → length ms ≤ i → SoFar ms ns 8 (length ms) r
-members-done {ms} {ns₀} {ns} {i} {r} s h = let l = s.member-in in let e : i ≡ length ms = omega arith in subst (λ k. SoFar ms ns 8 k r) e s.list
+  pub member-on : i < length ms → Asks (get_or ms i 0) b → x ≡ need_of ms i → SoFar ms ns' f (i + 1) r'
+  member-on l u ex = rw (put.0, put.1) (member-put s x h b l u ex)
 
 -- ---- the whole list
 

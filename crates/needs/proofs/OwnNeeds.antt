@@ -29,17 +29,3 @@ module _ (x : ℕ) where
       on = λ e. (let l = ltb-true r 16 e in by_mode r h l g (sym ea ∙ mode-one m l));
       all = λ o. lt-ltb r 16 (own-mode o).1;
     }
-
-  module _ {t : ℕ} (et : t ≡ tag_w x) (g : t ≡ 6 → ⊥) where
-    own-until : Own x → (8 ≤ t) × (t < 10)
-    own-until (by_mode k h l q e) = absurd (g (et ∙ q))
-    own-until (by-until h l) = (omega arith, omega arith)
-
-    pub asks-low : t < 8 → Asks x false
-    asks-low h = asks-not (λ o. (let w = own-until o in omega arith))
-
-    pub asks-until : 8 ≤ t → Asks x (ltb t 10)
-    asks-until h = record {
-      on = λ e. (let l = ltb-true t 10 e in by-until (omega arith) (omega arith));
-      all = λ o. lt-ltb t 10 (own-until o).1;
-    }

@@ -20,25 +20,17 @@ use truth::blocks::fill_block;
 fn field_of(x: u64) -> u64
     ensures { (f : ℕ) → f < 8 → has_mode result f ≡ (eqb (tag_w x) 6 && eqb (arg_w x) (2 ^ f)) }
 {
-    if tag(x) != 6 {
-        return 0;
-    }
     let a = arg(x);
-    if mode_of(a) < 8 {
-        return a;
-    }
-    0
+    if tag(x) == 6 && mode_of(a) < 8 { a } else { 0 }
 }
 
 // The fields over which there is an EX.
 fn ex_fields(ms: &[u64]) -> u64
     ensures { ExFields ms.now result }
 {
-    let mut acc: u64 = 0;
-    let mut i = 0;
-    while i < ms.len() {
-        acc = acc | field_of(ms[i]);
-        i += 1;
+    let mut acc = 0;
+    for &x in ms {
+        acc |= field_of(x);
     }
     acc
 }
@@ -48,11 +40,8 @@ fn join_block(tw: &mut [u64], w: usize, e: usize, i: usize)
     requires { (i < e) × (e * w + w ≤ length tw.old) }
     ensures { (P Q : ℕ → Bool) → BlockIs P w e tw.old → BlockIs Q w i tw.old → Redone w e (λ t. P t || Q t) tw.old tw.new }
 {
-    let mut k = 0;
-    while k < w {
-        let at = e * w + k;
-        tw[at] = tw[at] | tw[i * w + k];
-        k += 1;
+    for k in 0..w {
+        tw[e * w + k] |= tw[i * w + k];
     }
 }
 
@@ -61,10 +50,9 @@ fn join_member(ms: &[u64], tw: &mut [u64], w: usize, f: usize, e: usize, i: usiz
     requires { (f < 8) × (i < length ms.now) × (length ms.now ≤ e) × (e * w + w ≤ length tw.old) }
     ensures { (P Q : ℕ → Bool) → BlockIs P w e tw.old → BlockIs Q w i tw.old → Redone w e (λ t. P t || (ex_over ms.now f i && Q t)) tw.old tw.new }
 {
-    if !has_mode(field_of(ms[i]), f) {
-        return;
+    if has_mode(field_of(ms[i]), f) {
+        join_block(tw, w, e, i);
     }
-    join_block(tw, w, e, i);
 }
 
 // The block of field f becomes the types in which some EX over it is true; a is the fields over which there is one.
@@ -78,10 +66,8 @@ fn field_block(ms: &[u64], ln: &[u8], tw: &mut [u64], w: usize, a: u64, f: usize
     if !has_mode(a, f) {
         return;
     }
-    let mut i = 0;
-    while i < ms.len() {
+    for i in 0..ms.len() {
         join_member(ms, tw, w, f, e, i);
-        i += 1;
     }
 }
 
@@ -93,10 +79,8 @@ pub fn field_words(ms: &[u64], ln: &[u8], tw: &mut [u64], w: usize)
     ensures fields { Fields ms.now ln.now w tw.new }
 {
     let a = ex_fields(ms);
-    let mut f = 0;
-    while f < 8 {
+    for f in 0..8 {
         field_block(ms, ln, tw, w, a, f);
-        f += 1;
     }
     fill_block(tw, w, ms.len() + 8, true);
 }
@@ -105,18 +89,14 @@ pub fn field_words(ms: &[u64], ln: &[u8], tw: &mut [u64], w: usize)
 fn asks(x: u64) -> bool
     ensures { Asks x result }
 {
-    let g = tag(x);
-    if g == 6 {
-        let m = mode_of(arg(x));
-        if m < 8 {
-            return false;
+    match tag(x) {
+        6 => {
+            let m = mode_of(arg(x));
+            8 <= m && m < 16
         }
-        return m < 16;
+        8 | 9 => true,
+        _ => false,
     }
-    if g < 8 {
-        return false;
-    }
-    g < 10
 }
 
 // The need of a member, by its word and its place.
@@ -143,9 +123,10 @@ fn push_if(ns: &mut [u64], r: usize, x: u64, on: bool) -> usize
 {
     if on {
         ns[r] = x;
-        return r + 1;
+        r + 1
+    } else {
+        r
     }
-    r
 }
 
 // The needs of the fields, at the beginning of ns: how many.
@@ -155,13 +136,9 @@ fn list_fields(ms: &[u64], ns: &mut [u64]) -> usize
 {
     let a = ex_fields(ms);
     let n = ms.len();
-    let mut r: usize = 0;
-    let mut f: usize = 0;
-    while f < 8 {
-        let x = field_need(n, f);
-        let on = has_mode(a, f);
-        r = push_if(ns, r, x, on);
-        f += 1;
+    let mut r = 0;
+    for f in 0..8 {
+        r = push_if(ns, r, field_need(n, f), has_mode(a, f));
     }
     r
 }
@@ -173,13 +150,8 @@ fn list_members(ms: &[u64], ns: &mut [u64], r: usize) -> usize
     ensures { SoFar ms.now ns.new 8 (length ms.now) result }
 {
     let mut s = r;
-    let mut i: usize = 0;
-    while i < ms.len() {
-        let x = ms[i];
-        let y = need_of(x, i);
-        let on = asks(x);
-        s = push_if(ns, s, y, on);
-        i += 1;
+    for (i, &x) in ms.iter().enumerate() {
+        s = push_if(ns, s, need_of(x, i), asks(x));
     }
     s
 }

@@ -15,6 +15,5 @@ pub fn whole(x: u64) -> usize
 pub fn mode(x: u64) -> usize
     ensures { result ≡ mode_w x }
 {
-    let a = arg(x);
-    u64::trailing_zeros(a) as usize
+    arg(x).trailing_zeros() as usize
 }

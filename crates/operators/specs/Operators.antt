@@ -1,11 +1,9 @@
 -- The operators with modes. Assumes nothing: these are definitions.
-use Rattle.std.specs.Prelude.{ℕ, eqb}
+use Rattle.std.specs.Prelude.{Option, Some, None, ℕ, eqb}
 use Rattle.token.specs.declared.Modal.{Modal}
 use Rattle.token.specs.declared.Modal.TheVariants.{Ex, Ax, Ef, Af, Eg, Ag}
 use Rattle.operators.specs.declared.kinds.Binary.{Binary}
 use Rattle.operators.specs.declared.kinds.Binary.TheVariants.{Eu, Au, Er, Ar}
-use Rattle.operators.specs.declared.kinds.Choice.{Choice}
-use Rattle.operators.specs.declared.kinds.Choice.TheVariants.{Is, No}
 use Rattle.token.specs.Token.{pick}
 use Rattle.ctl.specs.Raw.{Raw, ex, ax, ef, af, eg, ag, eu, au, er, ar}
 
@@ -39,7 +37,7 @@ binary Er A p q = er A p q
 binary Ar A p q = ar A p q
 
 -- the operator of a quantifier, E (101) or A (97), and U (117) or R (114), each a capital by its lower-case letter
-unfoldable pub choice_of : ℕ → ℕ → Choice
+unfoldable pub choice_of : ℕ → ℕ → Option Binary
 choice_of q c =
-    pick (eqb q 101) (pick (eqb c 117) (Is Eu) (pick (eqb c 114) (Is Er) No))
-    (pick (eqb q 97) (pick (eqb c 117) (Is Au) (pick (eqb c 114) (Is Ar) No)) No)
+    pick (eqb q 101) (pick (eqb c 117) (Some Eu) (pick (eqb c 114) (Some Er) None))
+    (pick (eqb q 97) (pick (eqb c 117) (Some Au) (pick (eqb c 114) (Some Ar) None)) None)

@@ -27,12 +27,6 @@ pub enum Binary {
     Ar,
 }
 
-#[derive(Clone, Copy)]
-pub enum Choice {
-    Is(Binary),
-    No,
-}
-
 pub fn binary_kind(b: Binary) -> u8
     ensures { result ≡ binary_kind b }
 {
@@ -44,21 +38,24 @@ pub fn binary_kind(b: Binary) -> u8
     }
 }
 
+const E: u64 = b'e' as u64;
+
+const A: u64 = b'a' as u64;
+
+const U: u64 = b'u' as u64;
+
+const R: u64 = b'r' as u64;
+
 // The operator of a quantifier and U or R, each a capital by its lower-case letter.
-pub fn choose(q: u64, c: u64) -> Choice
+#[tactic(auto, unfolding(crate::specs::Operators::choice_of))]
+pub fn choose(q: u64, c: u64) -> Option<Binary>
     ensures { result ≡ choice_of q c }
 {
-    match q {
-        101 => match c {
-            117 => Choice::Is(Binary::Eu),
-            114 => Choice::Is(Binary::Er),
-            _ => Choice::No,
-        },
-        97 => match c {
-            117 => Choice::Is(Binary::Au),
-            114 => Choice::Is(Binary::Ar),
-            _ => Choice::No,
-        },
-        _ => Choice::No,
+    match (q, c) {
+        (E, U) => Some(Binary::Eu),
+        (E, R) => Some(Binary::Er),
+        (A, U) => Some(Binary::Au),
+        (A, R) => Some(Binary::Ar),
+        _ => None,
     }
 }

@@ -6,5 +6,5 @@ mod kinds;
 mod sets;
 
 pub use braced::{Modes, braces};
-pub use kinds::{Binary, Choice, binary_kind, choose, modal_kind};
+pub use kinds::{Binary, binary_kind, choose, modal_kind};
 pub use sets::lower;

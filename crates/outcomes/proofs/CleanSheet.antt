@@ -25,12 +25,10 @@ use Rattle.clean.specs.Clean.{clean_text, clean_wrong}
 use Rattle.clean.specs.Same.{SameSheet}
 use Rattle.clean.proofs.SameLaws.{same-kinds, same-members, same-places, same-spellings, same_text, same-within, same-wrong}
 use Rattle.clean.proofs.CleanSame.{clean-fits, written_read, written_same}
-use Rattle.outcomes.specs.declared.BookAnswer.{BookAnswer}
-use Rattle.outcomes.specs.declared.CleanAnswer.{CleanAnswer}
-use Rattle.outcomes.specs.declared.CleanAnswer.TheVariants.{Done}
-use Rattle.outcomes.specs.declared.ListAnswer.{ListAnswer}
-use Rattle.outcomes.specs.declared.SnapshotAnswer.{SnapshotAnswer}
-use Rattle.outcomes.specs.declared.TableAnswer.{TableAnswer}
+use Rattle.std.specs.Prelude.{Result, Ok}
+use Rattle.refusal.specs.declared.Refusal.{Refusal}
+use Rattle.outcomes.specs.declared.Booked.{Booked}
+use Rattle.outcomes.specs.declared.Tabled.{Tabled}
 use Rattle.outcomes.specs.Outcomes.{BookIs, CleanIs, ListIs, SnapshotIs, TableIs, clean_answer, clean_refusal, clean_store, or_else, verdict_of}
 use Rattle.outcomes.proofs.RefusalLaws.{else-none}
 use Rattle.outcomes.proofs.SameOutcomes.{moved, one_form, same-book, same-list, same-snapshot, same-table, same-tableau, same-verdict}
@@ -43,15 +41,15 @@ module _ {s t : List ℕ} (x : SameSheet s t) (K L : Limits) (a : refusal_under 
   clean-number n = ap₂ (λ k b. or_else k (cond b 18 0)) a (same-wrong x n)
 
   clean-told : (k : ℕ) → clean_answer t k ≡ clean_answer s k
-  clean-told zero = ap (λ w. Done (length w)) (same_text x)
+  clean-told zero = ap (λ w. Ok (length w)) (same_text x)
   clean-told (suc k) = refl
 
   clean-left : (d : List ℕ) (k : ℕ) → clean_store t k d ≡ clean_store s k d
   clean-left d zero = ap (λ w. w ++ drop (length w) d) (same_text x)
   clean-left d (suc k) = refl
 
-  pub same-clean : {d d' : List ℕ} {o : CleanAnswer} → CleanIs L s d o d' → CleanIs K t d o d'
-  same-clean {d} h = let k = clean-number (length d) in record { answer = moved k clean-told h.answer; store-holds = moved k (clean-left d) h.store-holds }
+  pub same-clean : {d d' : List ℕ} {o : Result ℕ Refusal} → CleanIs L s d o d' → CleanIs K t d o d'
+  same-clean {d} h = let k = clean-number (length d) in record { answer = moved k clean-told h.answer; number = h.number ∙ sym k; store-holds = moved k (clean-left d) h.store-holds }
 
 -- formula j of one sheet has the positive form of formula j of the other
 form-at : (l m : List Raw) → map positive l ≡ map positive m → (j : ℕ) → positive (get_or l j Raw.zero) ≡ positive (get_or m j Raw.zero)
@@ -59,13 +57,9 @@ form-at l m e j = sym (get_or-map positive l j Raw.zero) ∙ ap (λ (q : List Fo
 
 -- ---- what Clean wrote
 
-module _ {L : Limits} {s d d' : List ℕ} {n : ℕ} (h : CleanIs L s d (Done n) d') where
-  no-refusal : (k : ℕ) → Done n ≡ clean_answer s k → k ≡ 0
-  no-refusal zero e = refl
-  no-refusal (suc k) e = let z : ◌≡◌ {A = ℕ} 0 1 = cc in absurd (omega arith)
-
+module _ {L : Limits} {s d d' : List ℕ} {n : ℕ} (h : CleanIs L s d (Ok n) d') where
   pub clean-none : clean_refusal L s (length d) ≡ 0
-  clean-none = no-refusal (clean_refusal L s (length d)) h.answer
+  clean-none = sym h.number
 
   both : (refusal_under L s ≡ 0) × (◌≡◌ {A = ℕ} (cond (clean_wrong s (length d)) 18 0) 0)
   unfolding clean_refusal
@@ -79,7 +73,7 @@ module _ {L : Limits} {s d d' : List ℕ} {n : ℕ} (h : CleanIs L s d (Done n) 
       go false e = refl
 
   length-is : n ≡ length (clean_text s)
-  length-is = let e : Done n ≡ Done (length (clean_text s)) = h.answer ∙ ap (clean_answer s) clean-none in cc
+  length-is = let e : ◌≡◌ {A = Result ℕ Refusal} (Ok n) (Ok (length (clean_text s))) = h.answer ∙ ap (clean_answer s) clean-none in cc
 
   -- they have room in the store
   pub clean-room : n ≤ length d
@@ -127,23 +121,23 @@ module _ {L : Limits} {s d d' : List ℕ} {n : ℕ} (h : CleanIs L s d (Done n) 
 
   -- ---- the operations, under whatever limits
 
-  pub clean-table : {K : Limits} {r : ℕ} {a b a' b' : List ℕ} {o : TableAnswer} → TableIs K s r a b o a' b' → TableIs K (take n d') r a b o a' b'
+  pub clean-table : {K : Limits} {r : ℕ} {a b a' b' : List ℕ} {o : Result Tabled Refusal} → TableIs K s r a b o a' b' → TableIs K (take n d') r a b o a' b'
   clean-table {K} = same-table clean-same K (clean-under K)
 
-  pub clean-book : {K : Limits} {e e' : List ℕ} {o : BookAnswer} → BookIs K s e o e' → BookIs K (take n d') e o e'
+  pub clean-book : {K : Limits} {e e' : List ℕ} {o : Result Booked Refusal} → BookIs K s e o e' → BookIs K (take n d') e o e'
   clean-book {K} = same-book clean-same K K (clean-under K)
 
-  pub clean-list : {K : Limits} {r : ℕ} {e e' : List ℕ} {o : ListAnswer} → ListIs K s r e o e' → ListIs K (take n d') r e o e'
+  pub clean-list : {K : Limits} {r : ℕ} {e e' : List ℕ} {o : Result ℕ Refusal} → ListIs K s r e o e' → ListIs K (take n d') r e o e'
   clean-list {K} = same-list clean-same K K (clean-under K)
 
   pub clean-verdict : (K : Limits) → verdict_of K (take n d') ≡ verdict_of K s
   clean-verdict K = same-verdict clean-same K K (clean-under K)
 
-  pub clean-snapshot : {K : Limits} {u row row' : List ℕ} {o : SnapshotAnswer} → SnapshotIs K s u row o row' → SnapshotIs K (take n d') u row o row'
+  pub clean-snapshot : {K : Limits} {u row row' : List ℕ} {o : Result ℕ Refusal} → SnapshotIs K s u row o row' → SnapshotIs K (take n d') u row o row'
   clean-snapshot {K} = same-snapshot clean-same K K (clean-under K)
 
   -- into whatever store: cleaned again, it is what it is
-  pub clean-again : {K : Limits} {e e' : List ℕ} {o : CleanAnswer} → CleanIs K s e o e' → CleanIs K (take n d') e o e'
+  pub clean-again : {K : Limits} {e e' : List ℕ} {o : Result ℕ Refusal} → CleanIs K s e o e' → CleanIs K (take n d') e o e'
   clean-again {K} = same-clean clean-same K K (clean-under K)
 
   pub clean-stays : clean_text (take n d') ≡ take n d'

@@ -25,10 +25,12 @@ use Rattle.prepare.specs.Width.{words_for}
 use Rattle.prepare.proofs.Bridge.{sheet-lean}
 use Rattle.prepare.proofs.WidthLaws.{words-enough, words-wider}
 use Rattle.prepare.specs.Prepared.{tableau_in}
-use Rattle.outcomes.specs.declared.TableAnswer.{TableAnswer}
-use Rattle.outcomes.specs.declared.TableAnswer.TheVariants as Table
-use Rattle.outcomes.specs.declared.VerdictAnswer.{VerdictAnswer}
-use Rattle.outcomes.specs.declared.VerdictAnswer.TheVariants as Judging
+use Rattle.std.specs.Prelude.{Result, Ok}
+use Rattle.refusal.specs.declared.Refusal.{Refusal}
+use Rattle.refusal.specs.Number.{refused_as}
+use Rattle.judge.specs.declared.Verdict.{Verdict}
+use Rattle.judge.specs.declared.Verdict.TheVariants as Judging
+use Rattle.outcomes.specs.declared.Tabled.{Tabled}
 use Rattle.outcomes.specs.Outcomes.{TableIs, table_answer, table_refusal, table_store, verdict_answer, verdict_by, verdict_of}
 use Rattle.fitted.specs.Accepted.{holding, verdict_in, words_in}
 use Rattle.outcomes.specs.Demands.{StandsByClosed, TableDemand2, TableDemand3, Tells, VerdictDemand2, VerdictDemand3, WholeClaim, tells-open, tells-unsatisfiable}
@@ -60,35 +62,30 @@ module _ (L : Limits) (s : List ℕ) (r : ℕ) where
   )
 
   -- what stands behind an answer that is no refusal
-  pub record Behind (first second first' second' : List ℕ) (w start left rounds : ℕ) : Type 0 where
-    pub width : w ≡ words_in s
-    pub few : rounds ≤ start - left
+  pub record Behind (first second first' second' : List ℕ) (a : Tabled) : Type 0 where
+    pub width : a.words ≡ words_in s
+    pub few : a.rounds ≤ a.start - a.left
     pub enough : 2 ^ length (tableau_in s).ln ≤ words_in s * 64
     pub in-first : (t : ℕ) → t < words_in s * 64 → T (member first' t) ↔ (t ∈ surviving_types (tableau_in s) r)
     pub in-second : (t : ℕ) → t < words_in s * 64 → T (member second' t) ↔ (t ∈ surviving_types (tableau_in s) r)
 
-  module _ {first second : List ℕ} {o : TableAnswer} {first' second' : List ℕ} (x : TableIs L s r first second o first' second') where
-    behind : (w start left rounds : ℕ) → o ≡ Table.Done w start left rounds → Behind first second first' second' w start left rounds
-    behind w start left rounds e = go (table_refusal L s r (length first) (length second)) refl (sym e ∙ x.answer) x.first_holds x.second_holds
-      where
-        go : (k : ℕ) → table_refusal L s r (length first) (length second) ≡ k → Table.Done w start left rounds ≡ table_answer s r k → first' ≡ table_store s r k first → second' ≡ table_store s r k second
-            → Behind first second first' second' w start left rounds
-        go zero z a f g =
-            let n = table_none L s r (length first) (length second) z in
-            let few = words-within L s n.0 in
-            let w-is : w ≡ words_in s = cc in
-            let start_is : start ≡ length (start_types (tableau_in s) r) = cc in
-            let left_is : left ≡ length (surviving_types (tableau_in s) r) = cc in
-            let rounds-is : rounds ≡ rounds_of (tableau_in s) r = cc in
-            let less = (whole s).rounds-few r in
-            record {
-              width = w-is;
-              few = omega arith;
-              enough = enough s;
-              in-first = subst (λ d. (t : ℕ) → t < words_in s * 64 → T (member d t) ↔ (t ∈ surviving_types (tableau_in s) r)) (sym f) (held first (omega (arith, n.1.0)));
-              in-second = subst (λ d. (t : ℕ) → t < words_in s * 64 → T (member d t) ↔ (t ∈ surviving_types (tableau_in s) r)) (sym g) (held second (omega (arith, n.1.1)));
-            }
-        go (suc k) z a f g = absurd (let i : ◌≡◌ {A = ℕ} 0 1 = cc in omega arith)
+  module _ {first second : List ℕ} {o : Result Tabled Refusal} {first' second' : List ℕ} (x : TableIs L s r first second o first' second') where
+    behind : (a : Tabled) → o ≡ Ok a → Behind first second first' second' a
+    behind a e =
+        let z : table_refusal L s r (length first) (length second) ≡ 0 = sym x.number ∙ ap refused_as e in
+        let n = table_none L s r (length first) (length second) z in
+        let few = words-within L s n.0 in
+        let i : ◌≡◌ {A = Result Tabled Refusal} (Ok a) (table_answer s r 0) = sym e ∙ x.answer ∙ ap (table_answer s r) z in
+        let is : a ≡ record { words = words_in s; start = length (start_types (tableau_in s) r); left = length (surviving_types (tableau_in s) r); rounds = rounds_of (tableau_in s) r } = cc in
+        let bits : (d d' : List ℕ) → d' ≡ table_store s r (table_refusal L s r (length first) (length second)) d → words_in s ≤ length d → (t : ℕ) → t < words_in s * 64 → T (member d' t) ↔ (t ∈ surviving_types (tableau_in s) r) =
+        λ d d' f h. subst (λ d. (t : ℕ) → t < words_in s * 64 → T (member d t) ↔ (t ∈ surviving_types (tableau_in s) r)) (sym (f ∙ ap (λ k. table_store s r k d) z)) (held d h) in
+        record {
+          width = ap (λ q. q.words) is;
+          few = subst (λ q. q.rounds ≤ q.start - q.left) (sym is) ((whole s).rounds-few r);
+          enough = enough s;
+          in-first = bits first first' x.first_holds (omega (arith, n.1.0));
+          in-second = bits second second' x.second_holds (omega (arith, n.1.1));
+        }
 
     -- the bits of a store are the types of closed families
     by-closed : (d : List ℕ) (w : ℕ) → w ≡ words_in s → ((t : ℕ) → t < words_in s * 64 → T (member d t) ↔ (t ∈ surviving_types (tableau_in s) r)) → StandsByClosed s r w d
@@ -99,15 +96,15 @@ module _ (L : Limits) (s : List ℕ) (r : ℕ) where
 
     pub table-demand-2 : TableDemand2 s r o first' second'
     table-demand-2 = record {
-      in-first = λ w start left rounds e. (let b = behind w start left rounds e in by-closed first' w b.width b.in-first);
-      in-second = λ w start left rounds e. (let b = behind w start left rounds e in by-closed second' w b.width b.in-second);
+      in-first = λ a e. (let b = behind a e in by-closed first' a.words b.width b.in-first);
+      in-second = λ a e. (let b = behind a e in by-closed second' a.words b.width b.in-second);
     }
 
     pub table-demand-3 : TableDemand3 L s r o first' second'
     table-demand-3 = record {
       whole = λ z. whole s;
-      few-rounds = λ w start left rounds e. (behind w start left rounds e).few;
-      stands = λ w start left rounds e g speaks fits i t l n. (let b = behind w start left rounds e in
+      few-rounds = λ a e. (behind a e).few;
+      stands = λ a e g speaks fits i t l n. (let b = behind a e in
           let d = whole s in
           let top = b.enough in
           let small = n.small in
@@ -119,38 +116,38 @@ module _ (L : Limits) (s : List ℕ) (r : ℕ) where
 -- ---- Verdict
 
 module _ (L : Limits) (s : List ℕ) where
-  by-verdict : refusal_under L s ≡ 0 → verdict_of L s ≡ verdict_by (verdict_in s)
+  by-verdict : refusal_under L s ≡ 0 → verdict_of L s ≡ Ok (verdict_by (verdict_in s))
   unfolding verdict_of
   by-verdict z = ap (verdict_answer s) z
 
-  open-back : (a : Ctl.Verdict) (r t : ℕ) → verdict_by a ≡ Judging.Open r t → a ≡ Ctl.open' r t
+  open-back : (a : Ctl.Verdict) (r t : ℕ) → ◌≡◌ {A = Result Verdict Refusal} (Ok (verdict_by a)) (Ok (Judging.Open r t)) → a ≡ Ctl.open' r t
   open-back Ctl.unsatisfiable r t e = absurd (let i : ◌≡◌ {A = ℕ} 0 1 = cc in omega arith)
   open-back (Ctl.open' q u) r t e = let i : q ≡ r = cc in let j : u ≡ t = cc in ap (λ n. Ctl.open' n u) i ∙ ap (Ctl.open' r) j
 
-  unsatisfiable-back : (a : Ctl.Verdict) → verdict_by a ≡ Judging.Unsatisfiable → a ≡ Ctl.unsatisfiable
+  unsatisfiable-back : (a : Ctl.Verdict) → ◌≡◌ {A = Result Verdict Refusal} (Ok (verdict_by a)) (Ok Judging.Unsatisfiable) → a ≡ Ctl.unsatisfiable
   unsatisfiable-back Ctl.unsatisfiable e = refl
   unsatisfiable-back (Ctl.open' q u) e = absurd (let i : ◌≡◌ {A = ℕ} 0 1 = cc in omega arith)
 
-  tells : (a : Ctl.Verdict) → Tells (verdict_by a) a
+  tells : (a : Ctl.Verdict) → Tells (Ok (verdict_by a)) a
   tells Ctl.unsatisfiable = tells-unsatisfiable
   tells (Ctl.open' r t) = tells-open r t
 
   -- an answer that is no refusal comes of a sheet that is not refused
-  not-refused : verdict_of L s ≡ Judging.Unsatisfiable → refusal_under L s ≡ 0
+  not-refused : verdict_of L s ≡ Ok Judging.Unsatisfiable → refusal_under L s ≡ 0
   unfolding verdict_of
   not-refused e = go (refusal_under L s) refl e
     where
-      go : (k : ℕ) → refusal_under L s ≡ k → verdict_answer s k ≡ Judging.Unsatisfiable → refusal_under L s ≡ 0
+      go : (k : ℕ) → refusal_under L s ≡ k → verdict_answer s k ≡ Ok Judging.Unsatisfiable → refusal_under L s ≡ 0
       go zero z i = z
       go (suc k) z i = absurd (let j : ◌≡◌ {A = ℕ} 0 1 = cc in omega arith)
 
-  module _ {v : VerdictAnswer} (x : v ≡ verdict_of L s) where
+  module _ {v : Result Verdict Refusal} (x : v ≡ verdict_of L s) where
     pub verdict-demand-2 : VerdictDemand2 L s v
     unfolding verdict_in
     verdict-demand-2 = record {
       open-iff = λ z. (let i = open-some (tableau_in s) (positive (goal_of (formulas s))) in
-          let e : v ≡ verdict_by (verdict_in s) = x ∙ by-verdict z in
-          (λ w. i.0 (w.0, w.1, open-back (verdict_in s) w.0 w.1 (sym e ∙ w.2)), λ h. (let w = i.1 h in (w.0, w.1, e ∙ ap verdict_by w.2))));
+          let e : v ≡ Ok (verdict_by (verdict_in s)) = x ∙ by-verdict z in
+          (λ w. i.0 (w.0, w.1, open-back (verdict_in s) w.0 w.1 (sym e ∙ w.2)), λ h. (let w = i.1 h in (w.0, w.1, e ∙ ap (λ a. Ok (verdict_by a)) w.2))));
     }
 
     pub verdict-demand-3 : VerdictDemand3 L s v

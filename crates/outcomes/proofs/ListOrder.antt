@@ -19,7 +19,8 @@ use Rattle.limits.specs.declared.Limits.{Limits}
 use Rattle.fitted.specs.Accepted.{listed_in, survivors_in}
 use Rattle.outcomes.specs.Former.{EachOnce, FormerListIs, occurrences}
 use Rattle.outcomes.specs.Outcomes.{ListIs, list_refusal, list_store}
-use Rattle.outcomes.specs.declared.ListAnswer.{ListAnswer}
+use Rattle.std.specs.Prelude.{Result}
+use Rattle.refusal.specs.declared.Refusal.{Refusal}
 use Rattle.outcomes.proofs.RefusalLaws.{refused-case}
 
 -- ---- a list without repetition has each of its numbers once
@@ -70,7 +71,7 @@ module _ (s : List ℕ) (r : ℕ) where
   }
 
 -- whatever List answers and leaves, it keeps the promise that left the order open
-pub list-former : {L : Limits} {s : List ℕ} {r : ℕ} {d : List ℕ} {o : ListAnswer} {d' : List ℕ} → ListIs L s r d o d' → FormerListIs L s r d o d'
+pub list-former : {L : Limits} {s : List ℕ} {r : ℕ} {d : List ℕ} {o : Result ℕ Refusal} {d' : List ℕ} → ListIs L s r d o d' → FormerListIs L s r d o d'
 list-former {L} {s} {r} {d} {o} {d'} x =
     let left = length (survivors_in s r) in
     let k = list_refusal L s r (length d) in

@@ -2,9 +2,10 @@
 use mathlib.Core.Path.{◌≡◌, refl, sym, ap, ap₂, ◌∙◌, subst}
 use mathlib.Core.Bool.{cond}
 use mathlib.Core.List.{List, ◌++◌}
-use Prim.Native.Nat.{ℕ, zero, suc, ◌^◌, ◌≤◌, ◌<◌}
+use Prim.Native.Nat.{ℕ, ◌^◌, ◌≤◌, ◌<◌}
 use native.Mathlib.Omega.{arith}
 use lib.ListN.{length, drop, replicate}
+use Rattle.std.specs.Prelude.{Ok, Err}
 use borrow.Author.Tests.{le-ltb, lt-ltb}
 use Rattle.ctl.specs.Lists.{◌∈◌, elem}
 use Rattle.ctl.specs.Sorting.{sort}
@@ -14,58 +15,56 @@ use Rattle.wordset.specs.Words.{packed}
 use Rattle.truth.specs.Blocks.{list_of}
 use Rattle.listing.specs.Listed.{Listed}
 use Rattle.listing.proofs.Writing.{listed-as, listed-front}
+use Rattle.refusal.specs.declared.Refusal.{Refusal}
+use Rattle.refusal.specs.declared.Refusal.TheVariants as Refusing
+use Rattle.refusal.specs.Number.{number_of}
 use Rattle.limits.specs.declared.Limits.{Limits}
 use Rattle.limits.specs.Limits.{refusal_under}
 use Rattle.prepare.specs.Prepared.{tableau_in}
 use Rattle.frame.specs.SetUp.{Accepts}
 use Rattle.frame.specs.declared.Setup.{Setup}
 use Rattle.fitted.specs.Accepted.{listed_in, namings_in, survivors_in, words_in}
-use Rattle.fitted.proofs.AcceptedLaws.{few_words, short-lean, store-lists, width_is}
-use Rattle.outcomes.specs.declared.ListAnswer.TheVariants.{Done, Refused}
-use Rattle.outcomes.specs.Outcomes.{ListIs, list_answer, list_refusal, list_store, naming_refusal, or_else, store_refusal}
-use Rattle.outcomes.proofs.RefusalLaws.{else-first, else-next, else-none, refused-case}
+use Rattle.fitted.proofs.AcceptedLaws.{few_words, namings-are, short-lean, store-lists, width_is}
+use Rattle.outcomes.specs.Outcomes.{ListIs, list_answer, list_refusal, list_store, store_refusal}
+use Rattle.outcomes.proofs.RefusalLaws.{refused-answer, refused-store, sheet-first}
 use Rattle.outcomes.proofs.ListOrder.{listed-length}
 
--- a refusal leaves the store alone
-refused-by : {L : Limits} {s : List ℕ} {r k : ℕ} (d : List ℕ) → k ≡ list_refusal L s r (length d) → (k ≡ 0 → ⊥) → ListIs L s r d (Refused k) d
-refused-by {L} {s} {r} {k} d e n = record {
-  answer = refused-case Refused (list_answer s r) (λ q. refl) k n ∙ ap (list_answer s r) e;
-  store-holds = refused-case (λ q. d) (λ q. list_store s r q d) (λ q. refl) k n ∙ ap (λ q. list_store s r q d) e;
-}
+module _ (L : Limits) (s : List ℕ) (r : ℕ) (d : List ℕ) where
+  -- a refusal leaves the store alone
+  refused-by : (e : Refusal) → number_of e ≡ list_refusal L s r (length d) → ListIs L s r d (Err e) d
+  refused-by e i = record {
+    answer = refused-answer e i (list_answer s r) (λ q. refl);
+    number = i;
+    store-holds = refused-store e i d (λ q. list_store s r q d) (λ q. refl);
+  }
 
--- List's number, from the sheet's and the naming's
-module _ (L : Limits) (s : List ℕ) (r : ℕ) {k : ℕ} (e : k ≡ or_else (refusal_under L s) (naming_refusal (namings_in s) r)) where
-  number-first : (l : ℕ) → (k ≡ 0 → ⊥) → k ≡ list_refusal L s r l
+  pub list-refused : (e : Refusal) → number_of e ≡ refusal_under L s → ListIs L s r d (Err e) d
   unfolding list_refusal
-  number-first l n = go (refusal_under L s) (naming_refusal (namings_in s) r) (store_refusal (length (survivors_in s r)) l) e
-    where
-      go : (a b c : ℕ) → k ≡ or_else a b → k ≡ or_else a (or_else b c)
-      go zero b c i = i ∙ sym (else-first b c (λ h. n (i ∙ h)))
-      go (suc a) b c i = i ∙ else-first (suc a) b (λ h. omega arith) ∙ sym (else-first (suc a) (or_else b c) (λ h. omega arith))
+  list-refused e i = refused-by e (sheet-first e _ i)
 
-  number-store : (l : ℕ) → k ≡ 0 → list_refusal L s r l ≡ store_refusal (length (survivors_in s r)) l
-  unfolding list_refusal
-  number-store l z =
-      let i = else-none (refusal_under L s) (naming_refusal (namings_in s) r) (sym e ∙ z) in
-      else-next (refusal_under L s) (or_else (naming_refusal (namings_in s) r) (store_refusal (length (survivors_in s r)) l)) i.0
-      ∙ else-next (naming_refusal (namings_in s) r) (store_refusal (length (survivors_in s r)) l) i.1
+  module _ (z : refusal_under L s ≡ 0) {u : Setup} (a : Accepts s u) where
+    pub list-naming : u.namings ≤ r → ListIs L s r d (Err Refusing.Naming) d
+    unfolding list_refusal
+    list-naming h = let n = namings-are a in refused-by Refusing.Naming (simp (z, le-ltb r (namings_in s) (omega arith)))
 
-  pub list-refused : (d : List ℕ) → (k ≡ 0 → ⊥) → ListIs L s r d (Refused k) d
-  list-refused d n = refused-by d (number-first (length d) n) n
+    module _ (h : r < u.namings) {left : ℕ} (e : left ≡ length (survivors_in s r)) where
+      number_is : list_refusal L s r (length d) ≡ store_refusal left (length d)
+      unfolding list_refusal
+      number_is = let n = namings-are a in simp (z, lt-ltb r (namings_in s) (omega arith), e)
 
-  pub list-short : (d : List ℕ) {left : ℕ} → k ≡ 0 → left ≡ length (survivors_in s r) → length d < left → ListIs L s r d (Refused 12) d
-  list-short d {left} z e h =
-      refused-by d (sym (number-store (length d) z ∙ ap (λ b. cond b 12 0) (lt-ltb (length d) (length (survivors_in s r)) (omega arith)))) (λ i. omega arith)
+      pub list-short : length d < left → ListIs L s r d (Err Refusing.Store) d
+      list-short l = refused-by Refusing.Store (sym (number_is ∙ ap (λ b. cond b 12 0) (lt-ltb (length d) left l)))
 
-  pub list_done : (d : List ℕ) {left n : ℕ} {d' : List ℕ} → k ≡ 0 → left ≡ length (survivors_in s r) → left ≤ length d → Listed (listed_in s r) d 0 d' n → ListIs L s r d (Done n) d'
-  list_done d {left} {n} {d'} z e h x =
-      let none : list_refusal L s r (length d) ≡ 0 = number-store (length d) z ∙ ap (λ b. cond b 12 0) (le-ltb (length d) (length (survivors_in s r)) (omega arith)) in
-      let many : length (listed_in s r) ≡ length (survivors_in s r) = listed-length s r in
-      let front = listed-front x (omega arith) in
-      record {
-        answer = ap Done (front.0 ∙ many) ∙ ap (list_answer s r) (sym none);
-        store-holds = front.1 ∙ ap (λ q. listed_in s r ++ drop q d) many ∙ ap (λ q. list_store s r q d) (sym none);
-      }
+      pub list_done : {d' : List ℕ} {n : ℕ} → left ≤ length d → Listed (listed_in s r) d 0 d' n → ListIs L s r d (Ok n) d'
+      list_done {d'} {n} l x =
+          let none : 0 ≡ list_refusal L s r (length d) = sym (number_is ∙ ap (λ b. cond b 12 0) (le-ltb (length d) left l)) in
+          let many : length (listed_in s r) ≡ length (survivors_in s r) = listed-length s r in
+          let front = listed-front x (omega arith) in
+          record {
+            answer = ap Ok (front.0 ∙ many) ∙ ap (list_answer s r) none;
+            number = none;
+            store-holds = front.1 ∙ ap (λ q. listed_in s r ++ drop q d) many ∙ ap (λ q. list_store s r q d) none;
+          }
 
 -- ---- what is asked of the set-up and the table's words, and what they give
 

@@ -1,20 +1,20 @@
--- The lowest of several refusals. Assumes nothing.
-use mathlib.Core.Path.{◌≡◌, refl, sym, ap, ap₂, ◌∙◌}
+-- The lowest of several refusals, and the answer and the stores that a refusal comes with. Assumes nothing.
+use mathlib.Core.Path.{◌≡◌, refl, sym, ap, ◌∙◌}
 use mathlib.Core.Bool.{cond}
 use mathlib.Core.List.{List}
 use mathlib.Core.Logic.{◌⊎◌, inl, inr}
 use Prim.Native.Nat.{ℕ, zero, suc, ◌≤◌, ◌<◌}
 use native.Mathlib.Omega.{arith}
+use Rattle.std.specs.Prelude.{Result, Err}
 use borrow.Author.Tests.{eq-eqb, lt-ltb, ne_eqb}
 use Rattle.wordset.proofs.BelowLaws.{lt-or-le}
+use Rattle.refusal.specs.declared.Refusal.{Refusal}
+use Rattle.refusal.specs.Number.{number_of, refusal_by}
+use Rattle.refusal.proofs.NumberLaws.{number-some, refusal-by-number}
 use Rattle.limits.specs.declared.Limits.{Limits}
 use Rattle.limits.specs.Limits.{refusal_under}
-use Rattle.frame.specs.SetUp.{SetUp}
-use Rattle.frame.specs.declared.Setup.{Setup}
 use Rattle.outcomes.specs.Outcomes.{naming_refusal, or_else, store_refusal, table_refusal}
 use Rattle.fitted.specs.Accepted.{namings_in}
-use Rattle.fitted.proofs.AcceptedLaws.{namings-are}
-use Rattle.frame.proofs.SetUpLaws.{accepts-by, not-refused}
 use Rattle.prepare.specs.Width.{words_for}
 
 -- ---- a number, or the next
@@ -29,10 +29,27 @@ pub else-none : (k l : ℕ) → or_else k l ≡ 0 → (k ≡ 0) × (l ≡ 0)
 else-none zero l e = (refl, e)
 else-none (suc k) l e = let i : suc k ≡ 0 = sym (else-first (suc k) l (λ h. omega arith)) ∙ e in absurd (omega arith)
 
+-- the sheet's refusal is the operation's
+pub sheet-first : (e : Refusal) {k : ℕ} (l : ℕ) → number_of e ≡ k → number_of e ≡ or_else k l
+sheet-first e {k} l i = i ∙ sym (else-first k l (λ h. number-some e (i ∙ h)))
+
+-- ---- what a refusal comes with
+
 -- two answers or two stores that agree on every number but 0 agree on a refusal's
 pub refused-case : {A : Type 0} (f g : ℕ → A) → ((k : ℕ) → f (suc k) ≡ g (suc k)) → (k : ℕ) → (k ≡ 0 → ⊥) → f k ≡ g k
 refused-case f g h zero n = absurd (n refl)
 refused-case f g h (suc k) n = h k
+
+module _ (e : Refusal) {k : ℕ} (i : number_of e ≡ k) where
+  -- its answer, of answers by number
+  pub refused-answer : {A : Type 0} (f : ℕ → Result A Refusal) → ((q : ℕ) → f (suc q) ≡ Err (refusal_by (suc q))) → Err e ≡ f k
+  refused-answer f h = ap Err (sym (refusal-by-number e)) ∙ refused-case (λ q. Err (refusal_by q)) f (λ q. sym (h q)) (number_of e) (number-some e) ∙ ap f i
+
+  -- its store, of stores by number
+  pub refused-store : {A : Type 0} (d : A) (f : ℕ → A) → ((q : ℕ) → f (suc q) ≡ d) → d ≡ f k
+  refused-store d f h = refused-case (λ q. d) f (λ q. sym (h q)) (number_of e) (number-some e) ∙ ap f i
+
+-- ---- where nothing applies
 
 pub store-none : (n l : ℕ) → store_refusal n l ≡ 0 → n ≤ l
 store-none n l e = go (lt-or-le l n)
@@ -41,11 +58,7 @@ store-none n l e = go (lt-or-le l n)
     go (inl h) = let i : ◌≡◌ {A = ℕ} 0 12 = sym e ∙ ap (λ b. cond b 12 0) (lt-ltb l n h) in absurd (omega arith)
     go (inr h) = h
 
--- where the first of them is 0, so is the sheet's own refusal
-pub set-up-zero : {k : ℕ} (l m : ℕ) → k ≡ or_else l m → k ≡ 0 → l ≡ 0
-set-up-zero l m e z = (else-none l m (sym e ∙ z)).0
-
--- where nothing applies to Table
+-- to Table
 pub table_none : (L : Limits) (s : List ℕ) (r a b : ℕ) → table_refusal L s r a b ≡ 0 → (refusal_under L s ≡ 0) × ((words_for L.lean ≤ a) × (words_for L.lean ≤ b))
 unfolding table_refusal
 table_none L s r a b e =
@@ -54,28 +67,3 @@ table_none L s r a b e =
     let j = else-none (naming_refusal (namings_in s) r) (or_else (store_refusal w a) (store_refusal w b)) i.1 in
     let k = else-none (store_refusal w a) (store_refusal w b) j.1 in
     (i.0, (store-none w a k.0, store-none w b k.1))
-
--- ---- from a set-up
-
-module _ {L : Limits} {s : List ℕ} {u : Setup} (x : SetUp L s u) where
-  -- the sheet's own refusal is Table's
-  pub table-first : (r a b : ℕ) → (u.refusal ≡ 0 → ⊥) → u.refusal ≡ table_refusal L s r a b
-  unfolding table_refusal
-  table-first r a b n = x.is ∙ sym (else-first (refusal_under L s) _ (λ h. n (x.is ∙ h)))
-
-  -- Table's number after that, call by call
-  pub table-number : u.refusal ≡ 0 → (r a b : ℕ) {k m n o p w : ℕ} → k ≡ or_else m n → m ≡ naming_refusal u.namings r → n ≡ or_else o p → w ≡ words_for L.lean → o ≡ store_refusal w a → p ≡ store_refusal w b
-      → k ≡ table_refusal L s r a b
-  unfolding table_refusal
-  table-number z r a b ek em en ew eo ep =
-      ek
-      ∙ ap₂ or_else (em ∙ ap (λ n. naming_refusal n r) (namings-are (accepts-by x z))) (en ∙ ap₂ or_else (eo ∙ ap (λ w. store_refusal w a) ew) (ep ∙ ap (λ w. store_refusal w b) ew))
-      ∙ sym (else-next (refusal_under L s) _ (not-refused x z))
-
-  -- List's, before its store is looked at
-  pub naming-number : (r : ℕ) {k m : ℕ} → k ≡ or_else u.refusal m → m ≡ naming_refusal u.namings r → k ≡ or_else (refusal_under L s) (naming_refusal (namings_in s) r)
-  naming-number r {k} {m} ek em = go u.refusal refl
-    where
-      go : (q : ℕ) → u.refusal ≡ q → k ≡ or_else (refusal_under L s) (naming_refusal (namings_in s) r)
-      go zero e = ek ∙ ap₂ or_else x.is (em ∙ ap (λ n. naming_refusal n r) (namings-are (accepts-by x e)))
-      go (suc q) e = ek ∙ else-first u.refusal m (λ i. omega arith) ∙ x.is ∙ sym (else-first (refusal_under L s) (naming_refusal (namings_in s) r) (λ i. let j = x.is in omega arith))

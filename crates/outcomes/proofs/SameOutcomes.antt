@@ -33,14 +33,10 @@ use Rattle.snapshot_text.specs.Store.{of_store}
 use Rattle.snapshot.specs.Read.{read_snapshot}
 use Rattle.fitted.specs.Accepted.{holding, listed_in, verdict_in, words_in}
 use Rattle.clean.specs.Same.{SameSheet}
-use Rattle.outcomes.specs.declared.TableAnswer.{TableAnswer}
-use Rattle.outcomes.specs.declared.TableAnswer.TheVariants as Table
-use Rattle.outcomes.specs.declared.BookAnswer.{BookAnswer}
-use Rattle.outcomes.specs.declared.BookAnswer.TheVariants as Book
-use Rattle.outcomes.specs.declared.ListAnswer.{ListAnswer}
-use Rattle.outcomes.specs.declared.ListAnswer.TheVariants as Listing
-use Rattle.outcomes.specs.declared.SnapshotAnswer.{SnapshotAnswer}
-use Rattle.outcomes.specs.declared.SnapshotAnswer.TheVariants as Judged
+use Rattle.std.specs.Prelude.{Result, Ok}
+use Rattle.refusal.specs.declared.Refusal.{Refusal}
+use Rattle.outcomes.specs.declared.Booked.{Booked}
+use Rattle.outcomes.specs.declared.Tabled.{Tabled}
 use Rattle.outcomes.specs.Outcomes.{BookIs, ListIs, SnapshotIs, TableIs, book_answer, book_refusal, book_store, entries_in, list_answer, list_refusal, list_store, naming_refusal, nodes_of, or_else, row_in, row_refusal, snapshot_answer, snapshot_read, snapshot_refusal, snapshot_row, store_refusal, table_answer, table_refusal, table_store, verdict_answer, verdict_by, verdict_of}
 
 -- a result under a number is also that of the other sheet under its number
@@ -104,7 +100,7 @@ module _ {s t : List ℕ} (x : SameSheet s t) where
 
   table-told : (r k : ℕ) → table_answer t r k ≡ table_answer s r k
   unfolding words_in
-  table-told r zero = ap (λ T. Table.Done (words_by T) (length (start_types T r)) (length (surviving_types T r)) (rounds_of T r)) same-tableau
+  table-told r zero = ap (λ T. Ok (record { words = words_by T; start = length (start_types T r); left = length (surviving_types T r); rounds = rounds_of T r })) same-tableau
   table-told r (suc k) = refl
 
   table-left : (r : ℕ) (d : List ℕ) (k : ℕ) → table_store t r k d ≡ table_store s r k d
@@ -113,14 +109,14 @@ module _ {s t : List ℕ} (x : SameSheet s t) where
   table-left r d (suc k) = refl
 
   -- where the number is the same
-  pub same-tabled : {K L : Limits} {r : ℕ} {d e d' e' : List ℕ} {o : TableAnswer} → table_refusal K t r (length d) (length e) ≡ table_refusal L s r (length d) (length e) → TableIs L s r d e o d' e' → TableIs K t r d e o d' e'
-  same-tabled {r = r} {d} {e} k h = record { answer = moved k (table-told r) h.answer; first_holds = moved k (table-left r d) h.first_holds; second_holds = moved k (table-left r e) h.second_holds }
+  pub same-tabled : {K L : Limits} {r : ℕ} {d e d' e' : List ℕ} {o : Result Tabled Refusal} → table_refusal K t r (length d) (length e) ≡ table_refusal L s r (length d) (length e) → TableIs L s r d e o d' e' → TableIs K t r d e o d' e'
+  same-tabled {r = r} {d} {e} k h = record { answer = moved k (table-told r) h.answer; number = h.number ∙ sym k; first_holds = moved k (table-left r d) h.first_holds; second_holds = moved k (table-left r e) h.second_holds }
 
   table-number : (L : Limits) → refusal_under L t ≡ refusal_under L s → (r m n : ℕ) → table_refusal L t r m n ≡ table_refusal L s r m n
   unfolding table_refusal
   table-number L a r m n = ap₂ (λ k T. or_else k (or_else (naming_refusal (namings T) r) (or_else (store_refusal (words_for L.lean) m) (store_refusal (words_for L.lean) n)))) a same-tableau
 
-  pub same-table : (L : Limits) → refusal_under L t ≡ refusal_under L s → {r : ℕ} {d e d' e' : List ℕ} {o : TableAnswer} → TableIs L s r d e o d' e' → TableIs L t r d e o d' e'
+  pub same-table : (L : Limits) → refusal_under L t ≡ refusal_under L s → {r : ℕ} {d e d' e' : List ℕ} {o : Result Tabled Refusal} → TableIs L s r d e o d' e' → TableIs L t r d e o d' e'
   same-table L a {r} {d} {e} = same-tabled (table-number L a r (length d) (length e))
 
   -- the others ask nothing of their stores that goes by the limits, so these may differ
@@ -131,7 +127,7 @@ module _ {s t : List ℕ} (x : SameSheet s t) where
 
     book-told : (k : ℕ) → book_answer t k ≡ book_answer s k
     unfolding words_in
-    book-told zero = ap (λ T. Book.Done (namings T) (words_by T)) same-tableau
+    book-told zero = ap (λ T. Ok (record { namings = namings T; words = words_by T })) same-tableau
     book-told (suc k) = refl
 
     book-left : (d : List ℕ) (k : ℕ) → book_store t k d ≡ book_store s k d
@@ -139,15 +135,15 @@ module _ {s t : List ℕ} (x : SameSheet s t) where
     book-left d zero = ap (λ T. tables_by (words_by T) (λ r u. elem u (surviving_types T r)) (namings T) ++ drop (namings T * words_by T) d) same-tableau
     book-left d (suc k) = refl
 
-    pub same-book : {d d' : List ℕ} {o : BookAnswer} → BookIs L s d o d' → BookIs K t d o d'
-    same-book {d} h = let k = book-number (length d) in record { answer = moved k book-told h.answer; store-holds = moved k (book-left d) h.store-holds }
+    pub same-book : {d d' : List ℕ} {o : Result Booked Refusal} → BookIs L s d o d' → BookIs K t d o d'
+    same-book {d} h = let k = book-number (length d) in record { answer = moved k book-told h.answer; number = h.number ∙ sym k; store-holds = moved k (book-left d) h.store-holds }
 
     list-number : (r n : ℕ) → list_refusal K t r n ≡ list_refusal L s r n
     unfolding list_refusal
     list-number r n = ap₂ (λ k T. or_else k (or_else (naming_refusal (namings T) r) (store_refusal (length (surviving_types T r)) n))) a same-tableau
 
     list-told : (r k : ℕ) → list_answer t r k ≡ list_answer s r k
-    list-told r zero = ap (λ T. Listing.Done (length (surviving_types T r))) same-tableau
+    list-told r zero = ap (λ T. Ok (length (surviving_types T r))) same-tableau
     list-told r (suc k) = refl
 
     list_left : (r : ℕ) (d : List ℕ) (k : ℕ) → list_store t r k d ≡ list_store s r k d
@@ -155,12 +151,12 @@ module _ {s t : List ℕ} (x : SameSheet s t) where
     list_left r d zero = ap (λ T. sort (fewest_first (length T.ln)) (surviving_types T r) ++ drop (length (surviving_types T r)) d) same-tableau
     list_left r d (suc k) = refl
 
-    pub same-list : {r : ℕ} {d d' : List ℕ} {o : ListAnswer} → ListIs L s r d o d' → ListIs K t r d o d'
-    same-list {r} {d} h = let k = list-number r (length d) in record { answer = moved k (list-told r) h.answer; store-holds = moved k (list_left r d) h.store-holds }
+    pub same-list : {r : ℕ} {d d' : List ℕ} {o : Result ℕ Refusal} → ListIs L s r d o d' → ListIs K t r d o d'
+    same-list {r} {d} h = let k = list-number r (length d) in record { answer = moved k (list-told r) h.answer; number = h.number ∙ sym k; store-holds = moved k (list_left r d) h.store-holds }
 
     verdict-told : (k : ℕ) → verdict_answer t k ≡ verdict_answer s k
     unfolding verdict_in
-    verdict-told zero = ap₂ (λ T p. verdict_by (Ctl.verdict T p)) same-tableau same-goal
+    verdict-told zero = ap₂ (λ T p. Ok (verdict_by (Ctl.verdict T p))) same-tableau same-goal
     verdict-told (suc k) = refl
 
     pub same-verdict : verdict_of K t ≡ verdict_of L s
@@ -178,7 +174,7 @@ module _ {s t : List ℕ} (x : SameSheet s t) where
     snapshot-number u n = ap₂ (λ k q. or_else k (row_refusal q n)) a (snapshot-read u)
 
     snapshot-told : (u : List ℕ) (k : ℕ) → snapshot_answer t u k ≡ snapshot_answer s u k
-    snapshot-told u zero = ap (λ q. Judged.Done (nodes_of q)) (snapshot-read u)
+    snapshot-told u zero = ap (λ q. Ok (nodes_of q)) (snapshot-read u)
     snapshot-told u (suc k) = refl
 
     row_same : (u : List ℕ) (n : ℕ) → row_in t u n ≡ row_in s u n
@@ -188,5 +184,5 @@ module _ {s t : List ℕ} (x : SameSheet s t) where
     row-left u row zero = ap (λ q. row_in t u (nodes_of q) ++ drop (nodes_of q) row) (snapshot-read u) ∙ ap (λ l. l ++ drop (nodes_of (snapshot_read s u)) row) (row_same u (nodes_of (snapshot_read s u)))
     row-left u row (suc k) = refl
 
-    pub same-snapshot : {u row row' : List ℕ} {o : SnapshotAnswer} → SnapshotIs L s u row o row' → SnapshotIs K t u row o row'
-    same-snapshot {u} {row} h = let k = snapshot-number u (length row) in record { answer = moved k (snapshot-told u) h.answer; row-holds = moved k (row-left u row) h.row-holds }
+    pub same-snapshot : {u row row' : List ℕ} {o : Result ℕ Refusal} → SnapshotIs L s u row o row' → SnapshotIs K t u row o row'
+    same-snapshot {u} {row} h = let k = snapshot-number u (length row) in record { answer = moved k (snapshot-told u) h.answer; number = h.number ∙ sym k; row-holds = moved k (row-left u row) h.row-holds }

@@ -2,23 +2,27 @@
 use mathlib.Core.Path.{◌≡◌, refl, sym, ap, ◌∙◌}
 use mathlib.Core.List.{List}
 use Prim.Native.Nat.{ℕ}
+use Rattle.std.specs.Prelude.{Ok, Err}
+use Rattle.refusal.specs.declared.Refusal.{Refusal}
+use Rattle.refusal.specs.Number.{number_of}
 use Rattle.judge.specs.Judged as Judged
 use Rattle.judge.specs.declared.Verdict.{Verdict}
-use Rattle.frame.specs.SetUp.{SetUp}
-use Rattle.frame.specs.declared.Setup.{Setup}
-use Rattle.outcomes.specs.declared.VerdictAnswer.{VerdictAnswer}
-use Rattle.outcomes.specs.declared.VerdictAnswer.TheVariants.{Refused}
+use Rattle.judge.specs.declared.Verdict.TheVariants.{Open, Unsatisfiable}
 use Rattle.outcomes.specs.Outcomes.{verdict_answer, verdict_by, verdict_of}
 use Rattle.fitted.specs.Accepted.{verdict_in}
-use Rattle.frame.proofs.SetUpLaws.{not-refused}
 use Rattle.limits.specs.declared.Limits.{Limits}
-use Rattle.outcomes.proofs.RefusalLaws.{refused-case}
+use Rattle.limits.specs.Limits.{refusal_under}
+use Rattle.outcomes.proofs.RefusalLaws.{refused-answer}
 
-module _ {L : Limits} {s : List ℕ} {u : Setup} (x : SetUp L s u) where
-  pub verdict-refused : (u.refusal ≡ 0 → ⊥) → Refused u.refusal ≡ verdict_of L s
-  unfolding verdict_of
-  verdict-refused n = refused-case Refused (verdict_answer s) (λ q. refl) u.refusal n ∙ ap (verdict_answer s) x.is
+verdict-back : (v : Verdict) → v ≡ verdict_by (Judged.verdict_of v)
+verdict-back (Open r t) = refl
+verdict-back Unsatisfiable = refl
 
-  pub verdict-judged : u.refusal ≡ 0 → (v : Verdict) {a : VerdictAnswer} → verdict_in s ≡ Judged.verdict_of v → a ≡ verdict_by (Judged.verdict_of v) → a ≡ verdict_of L s
+module _ (L : Limits) (s : List ℕ) where
+  pub verdict-refused : (e : Refusal) → number_of e ≡ refusal_under L s → Err e ≡ verdict_of L s
   unfolding verdict_of
-  verdict-judged z v e i = i ∙ ap verdict_by (sym e) ∙ ap (verdict_answer s) (sym (not-refused x z))
+  verdict-refused e i = refused-answer e i (verdict_answer s) (λ q. refl)
+
+  pub verdict-judged : refusal_under L s ≡ 0 → (v : Verdict) → verdict_in s ≡ Judged.verdict_of v → Ok v ≡ verdict_of L s
+  unfolding verdict_of
+  verdict-judged z v e = ap Ok (verdict-back v ∙ ap verdict_by (sym e)) ∙ ap (verdict_answer s) (sym z)

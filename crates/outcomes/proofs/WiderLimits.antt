@@ -14,11 +14,10 @@ use Rattle.limits.specs.Limits.{Wider, limits_wrong, refusal_under, usual}
 use Rattle.limits.proofs.LimitLaws.{wider-accepted}
 use Rattle.prepare.specs.Width.{words_for}
 use Rattle.prepare.proofs.WidthLaws.{words-wider}
-use Rattle.outcomes.specs.declared.BookAnswer.{BookAnswer}
-use Rattle.outcomes.specs.declared.CleanAnswer.{CleanAnswer}
-use Rattle.outcomes.specs.declared.ListAnswer.{ListAnswer}
-use Rattle.outcomes.specs.declared.SnapshotAnswer.{SnapshotAnswer}
-use Rattle.outcomes.specs.declared.TableAnswer.{TableAnswer}
+use Rattle.std.specs.Prelude.{Result}
+use Rattle.refusal.specs.declared.Refusal.{Refusal}
+use Rattle.outcomes.specs.declared.Booked.{Booked}
+use Rattle.outcomes.specs.declared.Tabled.{Tabled}
 use Rattle.outcomes.specs.Outcomes.{BookIs, CleanIs, ListIs, SnapshotIs, TableIs, naming_refusal, or_else, store_refusal, table_refusal, verdict_of}
 use Rattle.fitted.specs.Accepted.{namings_in}
 use Rattle.outcomes.proofs.CleanSheet.{same-clean}
@@ -44,22 +43,22 @@ module _ {l m : Limits} (s : List ℕ) (w : Wider l m) (z : refusal_under l s �
       (ap₂ or_else (long-enough (words_for m.lean) a h) (long-enough (words_for m.lean) b k)
       ∙ sym (ap₂ or_else (long-enough (words_for l.lean) a (omega arith)) (long-enough (words_for l.lean) b (omega arith))))
 
-  pub wider-table : {r : ℕ} {d e d' e' : List ℕ} {o : TableAnswer} → words_for m.lean ≤ length d → words_for m.lean ≤ length e → TableIs l s r d e o d' e' → TableIs m s r d e o d' e'
+  pub wider-table : {r : ℕ} {d e d' e' : List ℕ} {o : Result Tabled Refusal} → words_for m.lean ≤ length d → words_for m.lean ≤ length e → TableIs l s r d e o d' e' → TableIs m s r d e o d' e'
   wider-table {r} {d} {e} h k = same-tabled (itself s) (wider-number r (length d) (length e) h k)
 
-  pub wider-book : {d d' : List ℕ} {o : BookAnswer} → BookIs l s d o d' → BookIs m s d o d'
+  pub wider-book : {d d' : List ℕ} {o : Result Booked Refusal} → BookIs l s d o d' → BookIs m s d o d'
   wider-book = same-book (itself s) m l wider-alike
 
-  pub wider-list : {r : ℕ} {d d' : List ℕ} {o : ListAnswer} → ListIs l s r d o d' → ListIs m s r d o d'
+  pub wider-list : {r : ℕ} {d d' : List ℕ} {o : Result ℕ Refusal} → ListIs l s r d o d' → ListIs m s r d o d'
   wider-list = same-list (itself s) m l wider-alike
 
   pub wider-verdict : verdict_of m s ≡ verdict_of l s
   wider-verdict = same-verdict (itself s) m l wider-alike
 
-  pub wider-snapshot : {t row row' : List ℕ} {o : SnapshotAnswer} → SnapshotIs l s t row o row' → SnapshotIs m s t row o row'
+  pub wider-snapshot : {t row row' : List ℕ} {o : Result ℕ Refusal} → SnapshotIs l s t row o row' → SnapshotIs m s t row o row'
   wider-snapshot = same-snapshot (itself s) m l wider-alike
 
-  pub wider-clean : {d d' : List ℕ} {o : CleanAnswer} → CleanIs l s d o d' → CleanIs m s d o d'
+  pub wider-clean : {d d' : List ℕ} {o : Result ℕ Refusal} → CleanIs l s d o d' → CleanIs m s d o d'
   wider-clean = same-clean (itself s) m l wider-alike
 
 -- ---- without limits

@@ -1,6 +1,6 @@
 -- Demands 2 and 3 of the workshop, as records over what Table, Verdict and Snapshot answer and leave. They speak of the formulas as typed, and of nodes through the meaning over
 -- maximal paths alone. Assumes nothing.
-use Rattle.std.specs.Prelude.{◌≡◌, ◌↔◌, List, ℕ, ◌-◌, ◌*◌, ◌%◌, ◌≤◌, ◌<◌, T, length, get_or}
+use Rattle.std.specs.Prelude.{◌≡◌, ◌↔◌, List, ℕ, ◌-◌, ◌*◌, ◌%◌, ◌≤◌, ◌<◌, T, length, get_or, Result, Ok}
 use Rattle.ctl.specs.Lists.{◌∈◌}
 use Rattle.ctl.specs.Positive.{positive}
 use Rattle.ctl.specs.Raw.{Raw}
@@ -20,12 +20,10 @@ use Rattle.sheet.specs.Reading.{formulas, globals_of, goal_of, is_name, spell_of
 use Rattle.limits.specs.declared.Limits.{Limits}
 use Rattle.limits.specs.Limits.{refusal_under}
 use Rattle.prepare.specs.Prepared.{tableau_in}
-use Rattle.outcomes.specs.declared.SnapshotAnswer.{SnapshotAnswer}
-use Rattle.outcomes.specs.declared.SnapshotAnswer.TheVariants as Judged
-use Rattle.outcomes.specs.declared.TableAnswer.{TableAnswer}
-use Rattle.outcomes.specs.declared.TableAnswer.TheVariants as Table
-use Rattle.outcomes.specs.declared.VerdictAnswer.{VerdictAnswer}
-use Rattle.outcomes.specs.declared.VerdictAnswer.TheVariants as Judging
+use Rattle.refusal.specs.declared.Refusal.{Refusal}
+use Rattle.judge.specs.declared.Verdict.{Verdict}
+use Rattle.judge.specs.declared.Verdict.TheVariants as Judging
+use Rattle.outcomes.specs.declared.Tabled.{Tabled}
 use Rattle.outcomes.specs.Outcomes.{entries_in, snapshot_read}
 use Rattle.fitted.specs.Accepted.{namings_in}
 
@@ -35,13 +33,13 @@ use Rattle.fitted.specs.Accepted.{namings_in}
 abbrev pub StandsByClosed : List ℕ → ℕ → ℕ → List ℕ → Type 0
 StandsByClosed s r w d = (t : ℕ) → t < w * 64 → T (member d t) ↔ ((fam : List ℕ) × ClosedIn (tableau_in s) r fam × (t ∈ fam))
 
-pub record TableDemand2 (s : List ℕ) (r : ℕ) (o : TableAnswer) (first' second' : List ℕ) : Type 0 where
-  pub in-first : (w start left rounds : ℕ) → o ≡ Table.Done w start left rounds → StandsByClosed s r w first'
-  pub in-second : (w start left rounds : ℕ) → o ≡ Table.Done w start left rounds → StandsByClosed s r w second'
+pub record TableDemand2 (s : List ℕ) (r : ℕ) (o : Result Tabled Refusal) (first' second' : List ℕ) : Type 0 where
+  pub in-first : (t : Tabled) → o ≡ Ok t → StandsByClosed s r t.words first'
+  pub in-second : (t : Tabled) → o ≡ Ok t → StandsByClosed s r t.words second'
 
 -- the answer is open exactly if under some naming a surviving type makes the goal true
-pub record VerdictDemand2 (l : Limits) (s : List ℕ) (v : VerdictAnswer) : Type 0 where
-  pub open-iff : refusal_under l s ≡ 0 → ((r : ℕ) × (t : ℕ) × (v ≡ Judging.Open r t)) ↔ ((r : ℕ) × (t : ℕ) × (r < namings_in s) × HasGoal (tableau_in s) (positive (goal_of (formulas s))) r t)
+pub record VerdictDemand2 (l : Limits) (s : List ℕ) (v : Result Verdict Refusal) : Type 0 where
+  pub open-iff : refusal_under l s ≡ 0 → ((r : ℕ) × (t : ℕ) × (v ≡ Ok (Judging.Open r t))) ↔ ((r : ℕ) × (t : ℕ) × (r < namings_in s) × HasGoal (tableau_in s) (positive (goal_of (formulas s))) r t)
 
 -- in a given snapshot a formula holds at a node exactly as its meaning over maximal paths says: the lines are those of the snapshot's text, and byte i of the row has its bits by the
 -- goal and the globals as typed, at node i
@@ -50,9 +48,9 @@ pub record RowMeans (s : List ℕ) (lines : List (List ℕ)) (row' : List ℕ) :
   pub globals-bit : (i : ℕ) → i < length lines → (2 ≤ get_or row' i 0) ↔ ((g : Raw) → g ∈ globals_of (formulas s) → HoldsRaw (of_lines lines) g i)
 
 -- 13 to 15 and 17 in the documents' words (`Answered`); and after an answer that is no refusal, that the lines keep the rules on names and values, and what the row says
-pub record SnapshotMeans (l : Limits) (s t : List ℕ) (o : SnapshotAnswer) (row' : List ℕ) : Type 0 where
+pub record SnapshotMeans (l : Limits) (s t : List ℕ) (o : Result ℕ Refusal) (row' : List ℕ) : Type 0 where
   pub reads : refusal_under l s ≡ 0 → Answered (line_of s 0) (kinds s) t (entries_in s t) (snapshot_read s t)
-  pub judges : (n : ℕ) → o ≡ Judged.Done n → (lines : List (List ℕ)) × Text (line_of s 0) (length (kinds s)) t lines × (length lines ≡ n) × Legal (is_name s) (values_in s) (of_lines lines) × RowMeans s lines row'
+  pub judges : (n : ℕ) → o ≡ Ok n → (lines : List (List ℕ)) × Text (line_of s 0) (length (kinds s)) t lines × (length lines ≡ n) × Legal (is_name s) (values_in s) (of_lines lines) × RowMeans s lines row'
 
 -- ---- Demand 3
 
@@ -66,18 +64,18 @@ Speaks s g = Legal (is_name s) (values_in s) g × GlobalsHold (globals_of (formu
 
 -- What Table answers and leaves: few rounds; and in every snapshot of any size that the demand speaks of and naming r fits, the type of every node is there at the start, is
 -- there after every round, and stands at the end: its bit is set in both stores
-pub record TableDemand3 (l : Limits) (s : List ℕ) (r : ℕ) (o : TableAnswer) (first' second' : List ℕ) : Type 0 where
+pub record TableDemand3 (l : Limits) (s : List ℕ) (r : ℕ) (o : Result Tabled Refusal) (first' second' : List ℕ) : Type 0 where
   pub whole : refusal_under l s ≡ 0 → WholeClaim s (Ctl.verdict (tableau_in s) (positive (goal_of (formulas s))))
-  pub few-rounds : (w start left rounds : ℕ) → o ≡ Table.Done w start left rounds → rounds ≤ start - left
-  pub stands : (w start left rounds : ℕ) → o ≡ Table.Done w start left rounds → (g : Snapshot) → Speaks s g → Fits (tableau_in s) r g → (i t : ℕ) → i < g.n → NodeType (tableau_in s) g i t
+  pub few-rounds : (a : Tabled) → o ≡ Ok a → a.rounds ≤ a.start - a.left
+  pub stands : (a : Tabled) → o ≡ Ok a → (g : Snapshot) → Speaks s g → Fits (tableau_in s) r g → (i t : ℕ) → i < g.n → NodeType (tableau_in s) g i t
       → (t ∈ start_types (tableau_in s) r) × (((k : ℕ) → t ∈ family_of (tableau_in s) r k) × (T (member first' t) × T (member second' t)))
 
 -- what Verdict answers is a verdict of the logic
-pub data Tells : VerdictAnswer → Ctl.Verdict → Type 0 where
-  tells-open : (r t : ℕ) → Tells (Judging.Open r t) (Ctl.open' r t)
-  tells-unsatisfiable : Tells Judging.Unsatisfiable Ctl.unsatisfiable
+pub data Tells : Result Verdict Refusal → Ctl.Verdict → Type 0 where
+  tells-open : (r t : ℕ) → Tells (Ok (Judging.Open r t)) (Ctl.open' r t)
+  tells-unsatisfiable : Tells (Ok Judging.Unsatisfiable) Ctl.unsatisfiable
 
 -- Where the sheet is not refused, the single claim holds of the answer. In particular after unsatisfiable no snapshot that the demand speaks of has the goal at any node
-pub record VerdictDemand3 (l : Limits) (s : List ℕ) (v : VerdictAnswer) : Type 0 where
+pub record VerdictDemand3 (l : Limits) (s : List ℕ) (v : Result Verdict Refusal) : Type 0 where
   pub whole : refusal_under l s ≡ 0 → (a : Ctl.Verdict) × Tells v a × WholeClaim s a
-  pub nowhere : v ≡ Judging.Unsatisfiable → (g : Snapshot) → Speaks s g → (i : ℕ) → i < g.n → ¬ HoldsRaw g (goal_of (formulas s)) i
+  pub nowhere : v ≡ Ok Judging.Unsatisfiable → (g : Snapshot) → Speaks s g → (i : ℕ) → i < g.n → ¬ HoldsRaw g (goal_of (formulas s)) i

@@ -1,10 +1,10 @@
 -- Document 01's promise of List, which left the order open. Only proofs/ListOrder cites it. Assumes nothing.
-use Rattle.std.specs.Prelude.{◌≡◌, List, ℕ, eqb, length, take, drop}
+use Rattle.std.specs.Prelude.{◌≡◌, List, ℕ, eqb, length, take, drop, Result}
 use Rattle.ctl.specs.Lists.{◌∈◌, keep}
 use Rattle.limits.specs.declared.Limits.{Limits}
 use Rattle.fitted.specs.Accepted.{survivors_in}
 use Rattle.outcomes.specs.Outcomes.{list_answer, list_refusal}
-use Rattle.outcomes.specs.declared.ListAnswer.{ListAnswer}
+use Rattle.refusal.specs.declared.Refusal.{Refusal}
 
 -- how often x occurs in a list
 unfoldable pub occurrences : ℕ → List ℕ → ℕ
@@ -16,7 +16,7 @@ pub record EachOnce (types l : List ℕ) : Type 0 where
   pub only : (t : ℕ) → t ∈ l → t ∈ types
 
 -- the surviving types stand at the beginning of the store, each a single time and nothing else, in some order
-pub record FormerListIs (l : Limits) (s : List ℕ) (r : ℕ) (d : List ℕ) (o : ListAnswer) (d' : List ℕ) : Type 0 where
+pub record FormerListIs (l : Limits) (s : List ℕ) (r : ℕ) (d : List ℕ) (o : Result ℕ Refusal) (d' : List ℕ) : Type 0 where
   pub answer : o ≡ list_answer s r (list_refusal l s r (length d))
   pub untouched : (list_refusal l s r (length d) ≡ 0 → ⊥) → d' ≡ d
   pub listed : list_refusal l s r (length d) ≡ 0 → EachOnce (survivors_in s r) (take (length (survivors_in s r)) d')

@@ -1,7 +1,8 @@
 -- Filling a page, naming after naming: what one naming more makes of the verdict and of the bytes. Assumes nothing.
 use mathlib.Core.Path.{◌≡◌, refl, sym, ap, ap₂, ◌∙◌, subst}
-use mathlib.Core.List.{List, [], ◌∷◌, ◌++◌, append_assoc, append-nil}
+use mathlib.Core.List.{List, [], ◌∷◌, ◌++◌, append_assoc}
 use mathlib.Core.Logic.{◌⊎◌, inl, inr}
+use Rattle.std.specs.Prelude.{Option, Some, None}
 use Prim.Native.Nat.{ℕ, ◌+◌, ◌≤◌, ◌<◌}
 use native.Mathlib.Omega.{arith}
 use lib.ListN.{length, take}
@@ -10,57 +11,42 @@ use Rattle.tableau.specs.Families.{Rounds, Survivors}
 use Rattle.goal.specs.Goals.{first_of}
 use Rattle.start.specs.Starts.{start_list}
 use Rattle.tableau.specs.Tabled.{Tabled}
-use Rattle.goal.specs.declared.Found.{Found}
-use Rattle.goal.specs.declared.Found.TheVariants.{At, Nothing}
 use Rattle.tableau.specs.declared.table.Counts.{Counts}
 use Rattle.naming.specs.Next.{next_of}
 use Rattle.naming.specs.declared.Naming.{Naming}
 use Rattle.naming.proofs.NextLaws.{next-count, next-number}
 use Rattle.judge.specs.Judged.{Judged, opens, closes}
 use Rattle.judge.specs.declared.Verdict.{Verdict}
-use Rattle.judge.specs.declared.Verdict.TheVariants.{Open, Unsatisfiable}
+use Rattle.judge.specs.declared.Verdict.TheVariants.{Unsatisfiable}
 use Rattle.lines.specs.Lines.{naming_line}
 use Rattle.buffer.specs.Put.{Put}
 use Rattle.buffer.proofs.PutLaws.{put_front}
 use Rattle.pages.specs.Later.{later_of}
 use Rattle.pages.specs.Pages.{Paged, row_at, rows}
-use Rattle.pages.proofs.RowLaws.{rows_next, rows_none}
+use Rattle.pages.proofs.RowLaws.{rows_next}
 
 -- ---- the verdict on one naming more
 
-module _ {v : Verdict} (r : ℕ) (f : Found) where
-  pub later-open : {q t : ℕ} → v ≡ Open q t → Open q t ≡ later_of v r f
-  unfolding later_of
-  later-open e = ap (λ x. later_of x r f) (sym e)
-
-  pub later-found : {t : ℕ} → v ≡ Unsatisfiable → f ≡ At t → Open r t ≡ later_of v r f
-  unfolding later_of
-  later-found e i = ap₂ (λ x y. later_of x r y) (sym e) (sym i)
-
-  pub later-none : v ≡ Unsatisfiable → f ≡ Nothing → Unsatisfiable ≡ later_of v r f
-  unfolding later_of
-  later-none e i = ap₂ (λ x y. later_of x r y) (sym e) (sym i)
-
-none_first : (l : List ℕ) → Nothing ≡ first_of l → l ≡ []
+none_first : (l : List ℕ) → None ≡ first_of l → l ≡ []
 unfolding first_of
 none_first [] e = refl
-none_first (t ∷ ts) e = absurd (let z : ◌≡◌ {A = ℕ} 0 1 = cc in omega arith)
+none_first (t ∷ ts) e = absurd cc
 
 module _ {goals : ℕ → List ℕ} where
   pub judged-none : Judged goals 0 Unsatisfiable
   judged-none = closes (λ q h. absurd (omega arith))
 
-  later-is : {v : Verdict} {n : ℕ} (f : Found) → Judged goals n v → f ≡ first_of (goals n) → Judged goals (n + 1) (later_of v n f)
+  later-is : {v : Verdict} {n : ℕ} (f : Option ℕ) → Judged goals n v → f ≡ first_of (goals n) → Judged goals (n + 1) (later_of v n f)
   unfolding later_of
   later-is {v} {n} f (opens {r} {t} l h e) i = let k : r < n + 1 = omega arith in opens k h e
-  later-is {v} {n} (At t) (closes h) i = let k : n < n + 1 = omega arith in opens k h (sym i)
-  later-is {v} {n} Nothing (closes h) i = closes (λ q l. go q (top q n (omega arith)))
+  later-is {v} {n} (Some t) (closes h) i = let k : n < n + 1 = omega arith in opens k h (sym i)
+  later-is {v} {n} None (closes h) i = closes (λ q l. go q (top q n (omega arith)))
     where
       go : (q : ℕ) → (q ≡ n) ⊎ (q < n) → goals q ≡ []
       go q (inl e) = subst (λ k. goals k ≡ []) (sym e) (none_first (goals n) i)
       go q (inr l) = h q l
 
-  judged-later : {v a : Verdict} {r : ℕ} {f : Found} → Judged goals r v → f ≡ first_of (goals r) → a ≡ later_of v r f → Judged goals (r + 1) a
+  judged-later : {v a : Verdict} {r : ℕ} {f : Option ℕ} → Judged goals r v → f ≡ first_of (goals r) → a ≡ later_of v r f → Judged goals (r + 1) a
   judged-later {v} {a} {r} {f} j i e = subst (λ x. Judged goals (r + 1) x) (sym e) (later-is f j i)
 
   pub judged-at : {v : Verdict} {n r : ℕ} → Judged goals r v → r ≡ n → Judged goals n v
@@ -87,21 +73,9 @@ pub record Paging (line goals : ℕ → List ℕ) (start : Naming) (used : ℕ) 
   pub second-long : length second ≡ 64
 
 module _ {line goals : ℕ → List ℕ} {start : Naming} {used : ℕ} {out₀ : List ℕ} where
-  pub paging-start : {first second : List ℕ} {v : Verdict} → start.number ≤ start.count → Judged goals start.number v → length first ≡ 64 → length second ≡ 64 → Paging line goals start used out₀ out₀ first second v used start
-  paging-start h j a b = record {
-    text = sym (append-nil (take used out₀)) ∙ ap (λ l. take used out₀ ++ l) (sym (rows_none line start.number));
-    onward = omega arith;
-    within = h;
-    same_count = refl;
-    judged = j;
-    out-same = refl;
-    first-long = a;
-    second-long = b;
-  }
-
   module _ {out first second : List ℕ} {v : Verdict} {k : ℕ} {n : Naming} (p : Paging line goals start used out₀ out first second v k n) where
     pub paging-next : n.number < n.count → k ≤ length out → {l out' : List ℕ} {k' : ℕ} → Put k l out out' k' → l ≡ line n.number → length out' ≡ length out → {first' second' : List ℕ} → length first' ≡ length first → length second' ≡ length second
-        → {f : Found} {a : Verdict} {m : Naming} → f ≡ first_of (goals n.number) → a ≡ later_of v n.number f → m ≡ next_of n → Paging line goals start used out₀ out' first' second' a k' m
+        → {f : Option ℕ} {a : Verdict} {m : Naming} → f ≡ first_of (goals n.number) → a ≡ later_of v n.number f → m ≡ next_of n → Paging line goals start used out₀ out' first' second' a k' m
     paging-next h r {l} {out'} {k'} q e o {first'} {second'} x y {f} {a} {m} i j z =
         let c = next-count n m z refl in
         let u = next-number n m z h in
@@ -134,6 +108,3 @@ module _ {line goals : ℕ → List ℕ} {start : Naming} {used : ℕ} {out₀ :
 
     pub first-room : {w : ℕ} → w ≤ 64 → w ≤ length first
     first-room h = let a = p.first-long in omega arith
-
-    pub second-room : {w : ℕ} → w ≤ 64 → w ≤ length second
-    second-room h = let a = p.second-long in omega arith

@@ -3,6 +3,7 @@ use Rattle.std.specs.Prelude.{◌≡◌, List, ◌++◌, map, ℕ, ◌+◌, ◌-
 use Rattle.ctl.specs.Lists.{count_from}
 use Rattle.tableau.specs.Families.{Rounds, Survivors}
 use Rattle.start.specs.Starts.{start_list}
+use Rattle.tableau.specs.declared.words.Sheet.{Sheet}
 use Rattle.naming.specs.declared.Naming.{Naming}
 use Rattle.judge.specs.Judged.{Judged}
 use Rattle.lines.specs.Lines.{joined, naming_line}
@@ -12,6 +13,10 @@ use Rattle.pages.specs.declared.Page.{Page}
 unfoldable pub row_at : List ℕ → List ℕ → ℕ → List ℕ → List ℕ → List ℕ → ℕ → List ℕ
 row_at ms ln w base names newline r =
     naming_line r (length (start_list w base names (length ln) r)) (length (Survivors ms ln (start_list w base names (length ln) r))) (Rounds ms ln (start_list w base names (length ln) r)) newline
+
+-- the same of what the sheet's tables are made from
+abbrev pub row_of : Sheet → List ℕ → ℕ → List ℕ
+row_of s newline = row_at s.ms.now s.ln.now s.words.w s.base.now s.names.now newline
 
 -- the lines of namings a up to b, one after the other
 abbrev pub rows : (ℕ → List ℕ) → ℕ → ℕ → List ℕ

@@ -2,29 +2,24 @@
 #![tactic(auto)]
 
 ghost use Rattle.std.specs.Prelude.{◌≡◌, ◌+◌, ◌≤◌, ◌<◌, length};
-ghost use Rattle.tableau.specs.Families.{Ready};
-ghost use Rattle.judge.specs.Judged.{goals_at, Places, Judged};
+ghost use Rattle.tableau.specs.Sheets.{Prepared};
+ghost use Rattle.judge.specs.Judged.{Judged, Placed, goals_of};
 ghost use Rattle.pages.specs.Later.{later_of};
-ghost use Rattle.pages.specs.Pages.{Paged, row_at};
+ghost use Rattle.pages.specs.Pages.{Paged, row_of};
 
-use goal::Found;
 use judge::Verdict;
 use naming::Naming;
+use tableau::words::Sheet;
 
 // The verdict on namings 0 to r, from that on those before r and what was found for r.
-fn later(v: Verdict, r: u64, found: Found) -> Verdict
+#[tactic(auto, unfolding(crate::specs::Later::later_of))]
+fn later(v: Verdict, r: u64, found: Option<usize>) -> Verdict
     ensures { result ≡ later_of v r found }
 {
-    if let Verdict::Open { naming, least } = v {
-        return Verdict::Open { naming, least };
+    match (v, found) {
+        (Verdict::Unsatisfiable, Some(least)) => Verdict::Open { naming: r, least },
+        _ => v,
     }
-    if let Found::At(t) = found {
-        return Verdict::Open {
-            naming: r,
-            least: t,
-        };
-    }
-    Verdict::Unsatisfiable
 }
 
 // The naming in hand after a page, how many bytes of the buffer are used, and the verdict on the namings before the one in hand.
@@ -38,14 +33,7 @@ pub struct Page {
 // Puts the lines of the namings from `start` on behind the `used` bytes that the buffer holds, as many as fit, and leaves room for the last two lines. `before` is the verdict
 // on the namings before `start`.
 pub fn fill_page(
-    ms: &[u64],
-    ln: &[u8],
-    w: usize,
-    tw: &[u64],
-    cw: &[u64],
-    ns: &[u64],
-    names: &[u8],
-    base: &[u64],
+    sheet: &Sheet<'_>,
     goal: usize,
     start: Naming,
     before: Verdict,
@@ -53,34 +41,30 @@ pub fn fill_page(
     used: usize,
     newline: &[u8],
 ) -> Page
-    requires ready { Ready ms.now ln.now w tw.now cw.now ns.now }
-    requires places { Places w ln.now names.now base.now × ((w ≤ 64) × (goal < length ms.now)) }
-    requires judged { Judged (goals_at ms.now ln.now w base.now names.now goal) start.number before }
+    requires ready { Prepared sheet.now }
+    requires places { Placed sheet.now × ((sheet.now.words.w ≤ 64) × (goal < length sheet.now.ms.now)) }
+    requires judged { Judged (goals_of sheet.now goal) start.number before }
     requires number_le_count { (start.number ≤ start.count) × ((used + 256 ≤ length out.old) × (length newline.now ≤ 16)) }
-    ensures { Paged (row_at ms.now ln.now w base.now names.now newline.now) (goals_at ms.now ln.now w base.now names.now goal) start used out.old out.new result }
+    ensures { Paged (row_of sheet.now newline.now) (goals_of sheet.now goal) start used out.old out.new result }
 {
     let mut first = [0u64; 64];
     let mut second = [0u64; 64];
     let mut v = before;
     let mut k = used;
     let mut n = start;
+    // By hand: the naming in hand moves on by `naming::advanced`, a rule of the project.
     while n.number < n.count {
         let r = n.number;
-        let c = judge::fill_table(
-            ms,
-            ln,
-            w,
-            tw,
-            cw,
-            ns,
-            names,
-            base,
-            r,
-            &mut first,
-            &mut second,
-        );
+        let c = judge::fill_table(sheet, r, &mut first, &mut second);
         k = lines::put_naming(out, k, r, c, newline);
-        let found = goal::goal_type(ms, ln, w, tw, goal, &first);
+        let found = goal::goal_type(
+            sheet.ms,
+            sheet.ln,
+            sheet.words.w,
+            sheet.words.tw,
+            goal,
+            &first,
+        );
         v = later(v, r, found);
         n = naming::advanced(n);
         if out.len() - k < 256 {

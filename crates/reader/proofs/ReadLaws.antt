@@ -5,7 +5,7 @@ use mathlib.Core.List.{List, [], ◌∷◌, map}
 use Prim.Native.Nat.{ℕ, zero, suc, ◌+◌, ◌-◌, ◌^◌, ◌≤◌, ◌<◌}
 use native.Mathlib.Omega.{arith}
 use lib.ListN.{length, get_or, take, length-map}
-use Rattle.std.specs.Prelude.{Option, Some, None, Result, Ok, Err}
+use Rattle.std.specs.Prelude.{Result, Ok, Err, Option, Some, None}
 use Rattle.std.specs.Result.{IsErr, IsErrAnd}
 use Rattle.refusal.specs.declared.Refusal.{Refusal}
 use Rattle.refusal.specs.Number.{number_of}
@@ -41,8 +41,6 @@ use Rattle.prints.specs.Prints.{spell_at}
 use Rattle.lean.proofs.LengthLaws.{member-length, spell-short}
 use Rattle.lean.specs.Leaned.{Leaning, Leans, Leaned, LeanIs, LeanAs}
 use Rattle.closure.proofs.GivenLaws.{over-fits, over-signed}
-use Rattle.closure.specs.declared.Closed.{Closed}
-use Rattle.closure.specs.declared.Closed.TheVariants.{Within, Beyond}
 use Rattle.reader.specs.declared.Reading.{Reading}
 use Rattle.reader.specs.Reader.{forms, members, tabled, places, refusal_within, Says, ReadIs, RootsAre}
 use Rattle.spelling.specs.Spelling.{word}
@@ -133,33 +131,33 @@ module _ {s tab' : List ℕ} {h : Sheet} (x : (sheet_refusal s ≡ 0) × Right s
 
     -- ---- the closure was found, or is too large
 
-    module _ {most : ℕ} (limit : most ≤ 128) {tab tab₁ places₀ places₁ : List ℕ} (long : length tab ≡ 136) {a : Closed} (found : ClosedAs tab' roots tab tab₁ places₀ places₁ a) where
-      pub refused-beyond : (wide : ℕ) → a ≡ Beyond → refusal_within most wide s ≡ 9
+    module _ {most : ℕ} (limit : most ≤ 128) {tab tab₁ places₀ places₁ : List ℕ} (long : length tab ≡ 136) {a : Option ℕ} (found : ClosedAs tab' roots tab tab₁ places₀ places₁ a) where
+      pub refused-beyond : (wide : ℕ) → a ≡ None → refusal_within most wide s ≡ 9
       refused-beyond wide e = go (subst (ClosedIs (forms s) tab tab₁ places₀ places₁) e (found (formulas s) given))
         where
-          go : ClosedIs (forms s) tab tab₁ places₀ places₁ Beyond → refusal_within most wide s ≡ 9
+          go : ClosedIs (forms s) tab tab₁ places₀ places₁ None → refusal_within most wide s ≡ 9
           go (beyond l n k) = within-nine most wide s none (omega arith)
 
-      module _ {m : ℕ} (e : a ≡ Within m) where
-        case : ClosedIs (forms s) tab tab₁ places₀ places₁ (Within m)
+      module _ {m : ℕ} (e : a ≡ Some m) where
+        case : ClosedIs (forms s) tab tab₁ places₀ places₁ (Some m)
         case = subst (ClosedIs (forms s) tab tab₁ places₀ places₁) e (found (formulas s) given)
 
         table_is : Tabled (members s) tab₁ m
         table_is = go case
           where
-            go : ClosedIs (forms s) tab tab₁ places₀ places₁ (Within m) → Tabled (members s) tab₁ m
+            go : ClosedIs (forms s) tab tab₁ places₀ places₁ (Some m) → Tabled (members s) tab₁ m
             go (within t p n d q) = t
 
         room-is : length tab₁ ≡ 136
         room-is = go case
           where
-            go : ClosedIs (forms s) tab tab₁ places₀ places₁ (Within m) → length tab₁ ≡ 136
+            go : ClosedIs (forms s) tab tab₁ places₀ places₁ (Some m) → length tab₁ ≡ 136
             go (within t p n d q) = n ∙ long
 
         places-are : Placed (forms s) tab₁ places₁ m
         places-are = go case
           where
-            go : ClosedIs (forms s) tab tab₁ places₀ places₁ (Within m) → Placed (forms s) tab₁ places₁ m
+            go : ClosedIs (forms s) tab tab₁ places₀ places₁ (Some m) → Placed (forms s) tab₁ places₁ m
             go (within t p n d q) = p
 
         pub refused-many : (wide : ℕ) → most < m → refusal_within most wide s ≡ 9

@@ -4,7 +4,6 @@
 ghost use Rattle.std.specs.Prelude.{◌≡◌, ◌-◌, ◌≤◌, ◌<◌, length};
 ghost use Rattle.reader.specs.Reader.{RootsAre, ReadIs};
 
-use closure::Closed;
 use refusal::Refusal;
 
 // What a sheet says: its symbols' spellings as words and kinds (1 mark, 2 name, 3 field, 4 value); the members of its closure and behind them the values that do not occur, each a
@@ -49,8 +48,7 @@ fn read_in(s: &[u8], most: usize, wide: usize, nodes: &mut [u64]) -> Result<Read
     // Room for 128 closure members and 8 values.
     let mut members = [0u64; 136];
     let mut places = [0usize; 5];
-    let Closed::Within(closed) = closure::close(nodes, &roots[..n], &mut members, &mut places)
-    else {
+    let Some(closed) = closure::close(nodes, &roots[..n], &mut members, &mut places) else {
         return Err(Refusal::Closure);
     };
     if most < closed {

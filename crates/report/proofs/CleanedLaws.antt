@@ -15,22 +15,24 @@ use Rattle.limits.specs.declared.Limits.{Limits}
 use Rattle.limits.specs.Limits.{Wider, refusal_under}
 use Rattle.outcomes.proofs.WiderLimits.{wider-alike}
 use Rattle.fitted.specs.Accepted.{verdict_in}
-use Rattle.clean.specs.Clean.{clean_text, clean_wrong}
-use Rattle.outcomes.specs.declared.CleanAnswer.{CleanAnswer}
-use Rattle.outcomes.specs.declared.CleanAnswer.TheVariants.{Done, Refused}
-use Rattle.outcomes.specs.Outcomes.{CleanIs, clean_answer, clean_refusal, or_else}
+use Rattle.clean.specs.Clean.{clean_wrong}
+use Rattle.std.specs.Prelude.{Result, Ok, Err}
+use Rattle.refusal.specs.declared.Refusal.{Refusal}
+use Rattle.refusal.specs.Number.{number_of, refused_as}
+use Rattle.refusal.proofs.NumberLaws.{number-some}
+use Rattle.outcomes.specs.Outcomes.{CleanIs, clean_refusal, or_else}
 use Rattle.outcomes.proofs.CleanSheet.{clean_is, clean-none, clean-room, clean-same, clean-tableau, clean-under}
 use Rattle.outcomes.proofs.SameOutcomes.{same-goal}
 use Rattle.report.specs.Cleaned.{cleaned_by, cleaned_of}
 use Rattle.report.specs.Text.{lines_by, lines_of, naming_of, text_of}
 
-module _ {L : Limits} {s d d' : List ℕ} {o : CleanAnswer} (h : CleanIs L s d o d') (long : length d ≡ 1024) where
+module _ {L : Limits} {s d d' : List ℕ} {o : Result ℕ Refusal} (h : CleanIs L s d o d') (long : length d ≡ 1024) where
   cleaned-by : (k : ℕ) → clean_refusal L s (length d) ≡ k → cleaned_of L s ≡ cleaned_by s k
   unfolding cleaned_of
   cleaned-by k e = ap (cleaned_by s) (ap (clean_refusal L s) (sym long) ∙ e)
 
-  module _ {n : ℕ} (e : o ≡ Done n) where
-    is-done : CleanIs L s d (Done n) d'
+  module _ {n : ℕ} (e : o ≡ Ok n) where
+    is-done : CleanIs L s d (Ok n) d'
     is-done = subst (λ a. CleanIs L s d a d') e h
 
     pub text-within : n ≤ 1024
@@ -39,19 +41,16 @@ module _ {L : Limits} {s d d' : List ℕ} {o : CleanAnswer} (h : CleanIs L s d o
     pub text-whole : take n d' ≡ cleaned_of L s
     text-whole = clean_is is-done ∙ sym (cleaned-by 0 (clean-none is-done))
 
-  pub refused-whole : {k r : ℕ} {out out' : List ℕ} → o ≡ Refused k → Put 0 (refused_line k (10 ∷ [])) out out' r → take r out' ≡ cleaned_of L s
-  refused-whole {k} {r} {out} {out'} e p = go (clean_refusal L s (length d)) refl
+  pub refused-whole : {e : Refusal} {k r : ℕ} {out out' : List ℕ} → o ≡ Err e → k ≡ number_of e → Put 0 (refused_line k (10 ∷ [])) out out' r → take r out' ≡ cleaned_of L s
+  refused-whole {e} {k} {r} {out} {out'} i j p = go (number_of e) (number-some e) (sym (ap refused_as i) ∙ h.number)
     where
-      go : (q : ℕ) → clean_refusal L s (length d) ≡ q → take r out' ≡ cleaned_of L s
-      go zero i = let z : Refused k ≡ Done (length (clean_text s)) = sym e ∙ h.answer ∙ ap (clean_answer s) i in let a : ◌≡◌ {A = ℕ} 0 1 = cc in absurd (omega arith)
-      go (suc q) i =
-          let z : Refused k ≡ Refused (suc q) = sym e ∙ h.answer ∙ ap (clean_answer s) i in
-          let w : k ≡ suc q = cc in
-          put_front (omega arith) p ∙ ap (λ j. refused_line j (10 ∷ [])) w ∙ sym (cleaned-by (suc q) i)
+      go : (q : ℕ) → (q ≡ 0 → ⊥) → q ≡ clean_refusal L s (length d) → take r out' ≡ cleaned_of L s
+      go zero n w = absurd (n refl)
+      go (suc q) n w = let u : k ≡ suc q = j ∙ ap refused_as (sym i) ∙ h.number ∙ sym w in put_front (omega arith) p ∙ ap (λ j. refused_line j (10 ∷ [])) u ∙ sym (cleaned-by (suc q) (sym w))
 
 -- ---- what is printed of a clean sheet
 
-module _ {L : Limits} {s d d' : List ℕ} {n : ℕ} (h : CleanIs L s d (Done n) d') (newline : List ℕ) where
+module _ {L : Limits} {s d d' : List ℕ} {n : ℕ} (h : CleanIs L s d (Ok n) d') (newline : List ℕ) where
   same_lines : (k : ℕ) → lines_by (take n d') newline k ≡ lines_by s newline k
   unfolding naming_of verdict_in
   same_lines zero =

@@ -1,5 +1,5 @@
 -- What writing the pages asks, from the set-up of a sheet that is not refused. Assumes nothing.
-use mathlib.Core.Path.{◌≡◌}
+use mathlib.Core.Path.{◌≡◌, sym}
 use mathlib.Core.List.{List}
 use Prim.Native.Nat.{ℕ, ◌+◌, ◌≤◌, ◌<◌}
 use lib.ListN.{length}
@@ -11,6 +11,9 @@ use Rattle.limits.specs.declared.Limits.{Limits}
 use Rattle.limits.specs.Limits.{refusal_under}
 use Rattle.frame.specs.SetUp.{Accepts, globals_in, lean_in, members_in, names_in, values_in}
 use Rattle.frame.specs.declared.Setup.{Setup}
+use Rattle.frame.specs.Sheets.{SheetOf}
+use Rattle.tableau.specs.declared.words.Sheet.{Sheet}
+use Rattle.fitted.proofs.AcceptedLaws.{by-parts, ready-of}
 use Rattle.frame.proofs.Stores.{enough-words, few_words}
 use Rattle.frame.proofs.VerdictLaws.{framed-verdict}
 use Rattle.fitted.specs.Accepted.{verdict_in}
@@ -43,7 +46,8 @@ module _ {s : List ℕ} {u : Setup} (accepted : Accepts s u) where
           verdict-is = λ j. framed-verdict a base f.1 j;
         }
 
-    pub pages-asked : u.words + u.words ≤ length base → Places u.words (lean_in u) (names_in u) base × ((u.words ≤ 64) × (u.goal < length (members_in u)))
-    pages-asked l =
-        let a = accepted.framed in
-        (record { named = a.named; enough = enough-words a; base-room = l }, (few_words a, a.goal-inside))
+module _ {s : List ℕ} {u : Setup} (accepted : Accepts s u) {t : Sheet} (f : SheetOf u t) where
+  pub prints-of : (newline : List ℕ) {L : Limits} → refusal_under L s ≡ 0 → Prints L s newline t.ms.now t.ln.now t.words.w t.base.now t.names.now u.goal u.namings
+  prints-of newline {L} z =
+      by-parts (λ ms ln names w. Prints L s newline ms ln w t.base.now names u.goal u.namings) (sym f.members-are) (sym f.lean-is) (sym f.names-are) (sym f.width-is)
+      (prints accepted newline (ready-of accepted f) z)

@@ -4,7 +4,6 @@ ghost use Rattle.std.specs.Prelude.{◌≡◌};
 ghost use Rattle.report.specs.Cleaned.{cleaned_of};
 
 use limits::Limits;
-use lockgraph::CleanAnswer;
 use std::io::Stdout;
 
 // Hands the whole text to the output, in one write. The limits and the sheet are there for the contract alone. If the output takes no more, the bytes are lost: there is nowhere
@@ -23,10 +22,10 @@ pub fn report_clean(stdout: Stdout, l: Limits, sheet: &[u8]) -> u64
 {
     let mut store = [0u8; 1024];
     match lockgraph::clean_within(l, sheet, &mut store) {
-        CleanAnswer::Done { length } => write_text(stdout, l, sheet, &store[..length]),
-        CleanAnswer::Refused(k) => {
+        Ok(length) => write_text(stdout, l, sheet, &store[..length]),
+        Err(why) => {
             let mut out = [0u8; 144];
-            let n = lines::put_refused(&mut out, 0, k, b"\n");
+            let n = lines::put_refused(&mut out, 0, why.number(), b"\n");
             write_text(stdout, l, sheet, &out[..n])
         }
     }

@@ -7,11 +7,12 @@ mod progress;
 
 ghost use Rattle.std.specs.Prelude.{◌≡◌, ◌++◌, ◌≤◌, ◌<◌, length, take};
 ghost use Rattle.limits.specs.Limits.{refusal_under};
-ghost use Rattle.tableau.specs.Families.{Ready};
-ghost use Rattle.judge.specs.Judged.{Places};
-ghost use Rattle.frame.specs.Framed.{Stores};
+ghost use Rattle.judge.specs.Judged.{Placed};
+ghost use Rattle.tableau.specs.Sheets.{Prepared};
+ghost use Rattle.frame.specs.Framed.{Sizes};
 ghost use Rattle.frame.specs.SetUp.{Accepts};
-ghost use Rattle.report.specs.Prints.{Prints};
+ghost use Rattle.refusal.specs.Number.{number_of};
+ghost use Rattle.report.specs.Jobs.{lines_in, refusal_in, PrintsIn};
 ghost use Rattle.report.specs.Text.{lines_of, up_to};
 
 pub use cleaned::report_clean;
@@ -19,180 +20,110 @@ use frame::Setup;
 use judge::Verdict;
 use limits::Limits;
 use pages::fill_page;
+use refusal::Refusal;
 use std::io::{Stderr, Stdout};
+use tableau::words::Sheet;
+
+// What is printed, and where to: a sheet under limits, each line ended by `newline`, to the output; how far a long run is goes to standard error.
+#[derive(Clone, Copy)]
+struct Job<'a> {
+    stdout: Stdout,
+    stderr: Stderr,
+    limits: Limits,
+    sheet: &'a [u8],
+    newline: &'a [u8],
+}
 
 // Hands the next lines of the sheet's text to the output: the first `done` lines, which it has, and these bytes are the first `next`. The limits, the sheet and the newline are
 // there for the contract alone. If the output takes no more, the bytes are lost: there is nowhere else to report that.
-fn write_lines(
-    stdout: Stdout,
-    stderr: Stderr,
-    l: Limits,
-    sheet: &[u8],
-    newline: &[u8],
-    done: &mut u64,
-    next: u64,
-    bytes: &[u8],
-)
-    requires { up_to done.old (lines_of l sheet.now newline.now) ++ bytes.now ≡ up_to next (lines_of l sheet.now newline.now) }
+fn write_lines(job: &Job<'_>, done: &mut u64, next: u64, bytes: &[u8])
+    requires { up_to done.old (lines_in job.now) ++ bytes.now ≡ up_to next (lines_in job.now) }
     ensures { done.new ≡ next }
 {
-    progress::hide(stderr, *done);
-    let _ = stdout.write_all(bytes);
+    progress::hide(job.stderr, *done);
+    let _ = job.stdout.write_all(bytes);
     *done = next;
 }
 
 // Writes the lines of a sheet that is not refused, page after page. Line 0 is the heading, so naming r's line is line r + 1.
 fn write_pages(
-    stdout: Stdout,
-    stderr: Stderr,
-    l: Limits,
-    sheet: &[u8],
-    newline: &[u8],
+    job: &Job<'_>,
     done: &mut u64,
-    ms: &[u64],
-    ln: &[u8],
-    w: usize,
-    tw: &[u64],
-    cw: &[u64],
-    ns: &[u64],
-    names: &[u8],
-    base: &[u64],
+    sheet: &Sheet<'_>,
     goal: usize,
     namings: u64,
     out: &mut [u8],
 )
     requires done_value { done.old ≡ 0 }
-    requires prints { Prints l sheet.now newline.now ms.now ln.now w base.now names.now goal namings }
-    requires ready { Ready ms.now ln.now w tw.now cw.now ns.now }
-    requires places { Places w ln.now names.now base.now × ((w ≤ 64) × (goal < length ms.now)) }
-    requires in_bounds { (512 ≤ length out.old) × (length newline.now ≤ 16) }
-    ensures { done.new ≡ length (lines_of l sheet.now newline.now) }
+    requires prints { PrintsIn job.now sheet.now goal namings }
+    requires ready { Prepared sheet.now }
+    requires places { Placed sheet.now × ((sheet.now.words.w ≤ 64) × (goal < length sheet.now.ms.now)) }
+    requires in_bounds { (512 ≤ length out.old) × (length job.now.newline.now ≤ 16) }
+    ensures { done.new ≡ length (lines_in job.now) }
 {
-    let mut used = lines::put_heading(out, 0, newline);
+    let mut used = lines::put_heading(out, 0, job.newline);
     let mut n = naming::first(namings);
     let mut v = Verdict::Unsatisfiable;
     loop {
-        let p = fill_page(
-            ms, ln, w, tw, cw, ns, names, base, goal, n, v, out, used, newline,
-        );
+        let p = fill_page(sheet, goal, n, v, out, used, job.newline);
         n = p.naming;
         v = p.verdict;
         let next = n.number;
         let k = p.used;
         if namings <= next {
-            let m = lines::put_verdict(out, k, v, newline);
-            write_lines(
-                stdout,
-                stderr,
-                l,
-                sheet,
-                newline,
-                done,
-                namings + 3,
-                &out[..m],
-            );
+            let m = lines::put_verdict(out, k, v, job.newline);
+            write_lines(job, done, namings + 3, &out[..m]);
             return;
         }
-        write_lines(stdout, stderr, l, sheet, newline, done, next + 1, &out[..k]);
-        progress::show(stderr, next, namings);
+        write_lines(job, done, next + 1, &out[..k]);
+        progress::show(job.stderr, next, namings);
         used = 0;
     }
 }
 
 // Writes the only line of a refused sheet.
-fn refused(
-    stdout: Stdout,
-    stderr: Stderr,
-    l: Limits,
-    sheet: &[u8],
-    k: u8,
-    newline: &[u8],
-    done: &mut u64,
-)
+fn refused(job: &Job<'_>, done: &mut u64, why: Refusal)
     requires done_value { done.old ≡ 0 }
-    requires k_value { (k ≡ refusal_under l sheet.now) × ((k ≡ 0 → ⊥) × (length newline.now ≤ 16)) }
-    ensures { done.new ≡ length (lines_of l sheet.now newline.now) }
+    requires why_value { (number_of why ≡ refusal_in job.now) × (length job.now.newline.now ≤ 16) }
+    ensures { done.new ≡ length (lines_in job.now) }
 {
     let mut out = [0u8; 128];
-    let n = lines::put_refused(&mut out, 0, k, newline);
-    write_lines(stdout, stderr, l, sheet, newline, done, 1, &out[..n]);
+    let n = lines::put_refused(&mut out, 0, why.number(), job.newline);
+    write_lines(job, done, 1, &out[..n]);
 }
 
-// Writes the lines of a sheet that is not refused. What depends on the sheet alone is computed once, before the first naming; the last four stores are room for it.
-fn accepted_in(
-    stdout: Stdout,
-    stderr: Stderr,
-    l: Limits,
-    sheet: &[u8],
-    u: Setup,
-    newline: &[u8],
+// Writes the lines of a sheet that is not refused. What depends on the sheet alone is computed once, before the first naming, in stores of these sizes.
+fn accepted_with<const TW: usize, const CW: usize, const NS: usize, const BASE: usize>(
+    job: &Job<'_>,
     done: &mut u64,
-    tw: &mut [u64],
-    cw: &mut [u64],
-    ns: &mut [u64],
-    base: &mut [u64],
+    u: &Setup,
 )
     requires done_value { done.old ≡ 0 }
-    requires accepts { Accepts sheet.now u × ((refusal_under l sheet.now ≡ 0) × (length newline.now ≤ 16)) }
-    requires stores { Stores u.count u.words tw.old cw.old ns.old base.old }
-    ensures { done.new ≡ length (lines_of l sheet.now newline.now) }
+    requires accepts { Accepts job.now.sheet.now u.now × ((refusal_in job.now ≡ 0) × (length job.now.newline.now ≤ 16)) }
+    requires sizes { Sizes u.now.count u.now.words TW CW NS BASE }
+    requires sizes_bound { (TW ≤ 9280) × ((CW ≤ 4112) × ((NS ≤ 144) × (BASE ≤ 128))) }
+    ensures { done.new ≡ length (lines_in job.now) }
 {
-    let members = u.members;
-    let lean = u.lean;
-    let named = u.named;
-    let n = frame::fill(u, tw, cw, ns, base);
+    let mut tw = [0u64; TW];
+    let mut cw = [0u64; CW];
+    let mut ns = [0u64; NS];
+    let mut base = [0u64; BASE];
+    let tables = frame::sheet_in(u, &mut tw, &mut cw, &mut ns, &mut base);
     let mut out = [0u8; 8192];
-    write_pages(
-        stdout,
-        stderr,
-        l,
-        sheet,
-        newline,
-        done,
-        &members[..u.count],
-        &lean[..u.width],
-        u.words,
-        tw,
-        cw,
-        &ns[..n],
-        &named[..u.names],
-        base,
-        u.goal,
-        u.namings,
-        &mut out,
-    );
+    write_pages(job, done, &tables, u.goal, u.namings, &mut out);
 }
 
 // The same, in room that has the sheet's size.
-fn accepted(
-    stdout: Stdout,
-    stderr: Stderr,
-    l: Limits,
-    sheet: &[u8],
-    u: Setup,
-    newline: &[u8],
-    done: &mut u64,
-)
+fn accepted(job: &Job<'_>, done: &mut u64, u: &Setup)
     requires done_value { done.old ≡ 0 }
-    requires accepts { Accepts sheet.now u × ((refusal_under l sheet.now ≡ 0) × (length newline.now ≤ 16)) }
-    ensures { done.new ≡ length (lines_of l sheet.now newline.now) }
+    requires accepts { Accepts job.now.sheet.now u.now × ((refusal_in job.now ≡ 0) × (length job.now.newline.now ≤ 16)) }
+    ensures { done.new ≡ length (lines_in job.now) }
 {
     if frame::is_small(u.count, u.words) {
-        let mut tw = [0u64; 324];
-        let mut cw = [0u64; 272];
-        let mut ns = [0u64; 80];
-        let mut base = [0u64; 8];
-        return accepted_in(
-            stdout, stderr, l, sheet, u, newline, done, &mut tw, &mut cw, &mut ns, &mut base,
-        );
+        accepted_with::<324, 272, 80, 8>(job, done, u)
+    } else {
+        accepted_with::<9280, 4112, 144, 128>(job, done, u)
     }
-    let mut tw = [0u64; 9280];
-    let mut cw = [0u64; 4112];
-    let mut ns = [0u64; 144];
-    let mut base = [0u64; 128];
-    accepted_in(
-        stdout, stderr, l, sheet, u, newline, done, &mut tw, &mut cw, &mut ns, &mut base,
-    );
 }
 
 // What ends a line: at most 16 bytes.
@@ -209,14 +140,17 @@ fn ending(newline: &[u8]) -> &[u8]
 pub fn report(stdout: Stdout, stderr: Stderr, l: Limits, sheet: &[u8], newline: &[u8]) -> u64
     ensures { result ≡ length (lines_of l sheet.now (take 16 newline.now)) }
 {
+    let job = Job {
+        stdout,
+        stderr,
+        limits: l,
+        sheet,
+        newline: ending(newline),
+    };
     let mut done = 0u64;
-    let end = ending(newline);
-    let u = frame::set_up(l, sheet);
-    let k = u.refusal;
-    if k != 0 {
-        refused(stdout, stderr, l, sheet, k, end, &mut done);
-        return done;
+    match frame::set_up(l, sheet) {
+        Ok(u) => accepted(&job, &mut done, &u),
+        Err(why) => refused(&job, &mut done, why),
     }
-    accepted(stdout, stderr, l, sheet, u, end, &mut done);
     done
 }

@@ -7,8 +7,8 @@ use native.Mathlib.Numerals.{add-one}
 use native.Mathlib.Omega.{arith}
 use lib.ListN.{length, take, set}
 use lib.Seq.{length-take-le, take-suc-set}
-use Rattle.syntax.specs.declared.nodes.Parse.{Parse}
-use Rattle.syntax.specs.declared.nodes.Parse.TheVariants.{Done, Wrong}
+use Rattle.std.specs.Prelude.{Option, Some, None}
+use Rattle.syntax.specs.declared.nodes.Parsed.{Parsed}
 use Rattle.syntax.specs.Parse.{Out, good, bad, line_at, LineReads}
 use Rattle.syntax.proofs.Reading.{Read, meets-done, meets-wrong}
 use Rattle.layout.specs.Text.{end_of}
@@ -19,19 +19,19 @@ use Rattle.sheet.specs.Refusal.{read}
 use Rattle.sheet.specs.Sheet.{found_refusal, line_refusal, lowest, trees, nodes_from, ends_from, Left, OneRead, FormulasRead}
 
 -- ---- one formula
-module _ (t decl : List ℕ) (n : ℕ) (tab tab' : List ℕ) (r : Parse) (x : LineReads t decl 0 n tab tab' r) where
-  module _ (e m low : ℕ) (d : r ≡ Done e m low) where
-    found : Read (line_at t decl 0) n e m low tab tab'
-    found = meets-done (line_at t decl 0) n e m low tab tab' r x.meets d
+module _ (t decl : List ℕ) (n : ℕ) (tab tab' : List ℕ) (r : Option Parsed) (x : LineReads t decl 0 n tab tab' r) where
+  module _ (p : Parsed) (d : r ≡ Some p) where
+    found : Read (line_at t decl 0) n p tab tab'
+    found = meets-done (line_at t decl 0) n p tab tab' r x.meets d
 
-    inside : (0 < e) × ((e ≤ length t) × ((n < m) × (m + 0 ≤ n + e)))
+    inside : (0 < p.next) × ((p.next ≤ length t) × ((n < p.count) × (p.count + 0 ≤ n + p.next)))
     inside = rw d at x.inside
 
-    pub one-done : (l : ℕ) → l ≡ found_refusal low → OneRead t decl n tab tab' (record { count = m; low = l })
+    pub one-done : (l : ℕ) → l ≡ found_refusal p.low → OneRead t decl n tab tab' (record { count = p.count; low = l })
     unfolding line_refusal
     one-done l f = record { low-is = rw found.is f; left = rw found.is (found.count, found.table); bound = omega (arith, inside) }
 
-  pub one-wrong : r ≡ Wrong → OneRead t decl n tab tab' (record { count = n; low = 6 })
+  pub one-wrong : r ≡ None → OneRead t decl n tab tab' (record { count = n; low = 6 })
   unfolding line_refusal
   one-wrong d = let z : line_at t decl 0 ≡ bad = meets-wrong (line_at t decl 0) n tab tab' r x.meets d in record { low-is = rw z; left = rw z tt; bound = omega arith }
 

@@ -7,7 +7,6 @@ ghost use Rattle.sheet.specs.Sheet.{found_refusal, OneRead, FormulasRead, SheetR
 
 use head::Head;
 use refusal::Refusal;
-use syntax::Parse;
 
 // A formula that was read: how many nodes the table then holds, and its refusal 6, 7 or 8, or 9 for none.
 #[derive(Clone, Copy)]
@@ -34,15 +33,11 @@ fn read_one(text: &[u8], decl: &[u64], tab: &mut [u64], n: usize) -> One
     ensures { OneRead text.now decl.now n tab.old tab.new result }
 {
     match syntax::read_line(text, decl, 0, tab, n) {
-        Parse::Done {
-            next: _,
-            count,
-            low,
-        } => One {
-            count,
-            low: found_refusal(low),
+        Some(p) => One {
+            count: p.count,
+            low: found_refusal(p.low),
         },
-        Parse::Wrong => One { count: n, low: 6 },
+        None => One { count: n, low: 6 },
     }
 }
 

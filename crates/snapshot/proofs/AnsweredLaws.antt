@@ -14,8 +14,8 @@ use Rattle.ctl.specs.Lists.{◌∈◌, ExactlyOne}
 use Rattle.ctl.specs.Snapshot.{entry, of_lines, NamesSingle, values_of, ValuesSingle}
 use Rattle.ctl.proofs.BoolLaws.{true-T, T_true, and_both, and-make}
 use Rattle.ctl.proofs.ListLaws.{kept-below}
-use Rattle.snapshot.specs.declared.Answer.{Answer}
-use Rattle.snapshot.specs.declared.Answer.TheVariants.{Nodes}
+use Rattle.std.specs.Prelude.{Result, Ok}
+use Rattle.refusal.specs.declared.Refusal.{Refusal}
 use Rattle.snapshot_text.specs.Store.{entry_at}
 use Rattle.snapshot_text.specs.Text.{Text, Taken}
 use Rattle.snapshot_text.specs.Lines.{line_count, line_store}
@@ -179,7 +179,7 @@ module _ (kinds : List ℕ) (h8 : length kinds ≤ 8) (out : List ℕ) (lines : 
       some z = let h = t.some in omega arith
 
       -- a case's answer is the one that is judged
-      given : {a : Answer} → a ≡ judged kinds (length lines) out → Answered line kinds s out a → Answered line kinds s out (judged kinds (length lines) out)
+      given : {a : Result ℕ Refusal} → a ≡ judged kinds (length lines) out → Answered line kinds s out a → Answered line kinds s out (judged kinds (length lines) out)
       given q x = subst (Answered line kinds s out) q x
 
       go : (b c d : Bool) → fits kinds (length lines) out ≡ b → twice kinds (length lines) out ≡ c → not_one kinds (length lines) out ≡ d
@@ -215,7 +215,7 @@ module _ (line kinds s : List ℕ) (h1 : 1 ≤ length kinds) (h8 : length kinds 
   answered = by_count (line_count line (length kinds) s (replicate 128 0)) refl
 
   -- The same from what the contract of `read` says
-  pub read-answered : (r : Answer) (out : List ℕ) → r ≡ read_snapshot line kinds s (replicate 128 0) → out ≡ line_store line (length kinds) s (replicate 128 0) → Answered line kinds s out r
+  pub read-answered : (r : Result ℕ Refusal) (out : List ℕ) → r ≡ read_snapshot line kinds s (replicate 128 0) → out ≡ line_store line (length kinds) s (replicate 128 0) → Answered line kinds s out r
   read-answered r out e f = subst (λ (o : List ℕ). Answered line kinds s o r) (sym f) (subst (Answered line kinds s store) (sym e) answered)
 
 -- ---- one answer only
@@ -246,7 +246,7 @@ module _ {line kinds s : List ℕ} (h1 : 1 ≤ length kinds) {a b : List (List �
 
 module _ {line kinds s out : List ℕ} (h1 : 1 ≤ length kinds) where
   -- The cases of an answer exclude each other
-  pub one_answer : {a b : Answer} → Answered line kinds s out a → Answered line kinds s out b → a ≡ b
+  pub one_answer : {a b : Result ℕ Refusal} → Answered line kinds s out a → Answered line kinds s out b → a ≡ b
   one_answer (no_text f) (no_text g) = refl
   one_answer (no_text f) (too-high l t x) = absurd (f l t)
   one_answer (no_text f) (on-two l t w x) = absurd (f l t)
@@ -271,8 +271,8 @@ module _ {line kinds s out : List ℕ} (h1 : 1 ≤ length kinds) where
   one_answer (of-nodes n h) (too-high l t x) = absurd (not-both h1 t h.text x h.within)
   one_answer (of-nodes n h) (on-two l t w x) = absurd (not-single h1 t h.text x h.legal.names-single)
   one_answer (of-nodes n h) (not-one l t w g x) = absurd (not-valued h1 t h.text x h.legal.values-single)
-  one_answer (of-nodes n h) (of-nodes m k) = ap Nodes (sym h.count ∙ ap length (same_lines line (length kinds) s h.lines k.lines h1 h.text k.text) ∙ k.count)
+  one_answer (of-nodes n h) (of-nodes m k) = ap Ok (sym h.count ∙ ap length (same_lines line (length kinds) s h.lines k.lines h1 h.text k.text) ∙ k.count)
 
 -- What a node count says
-pub nodes-held : {line kinds s out : List ℕ} {n : ℕ} → Answered line kinds s out (Nodes n) → Held line kinds s out n
+pub nodes-held : {line kinds s out : List ℕ} {n : ℕ} → Answered line kinds s out (Ok n) → Held line kinds s out n
 nodes-held (of-nodes n h) = h

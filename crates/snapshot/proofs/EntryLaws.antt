@@ -8,15 +8,22 @@ use mathlib.Core.List.{List}
 use lib.Dec.{eqb, leb}
 use lib.ListN.{length, get_or}
 use borrow.Author.Tests.{eq-eqb, ne_eqb, lt-leb, le-leb}
+use Rattle.std.proofs.Common.{add-zero}
+use Rattle.std.specs.List.{IsAnyAnswer}
 use Rattle.wordset.specs.Below.{one, any_below, count_below}
-use Rattle.wordset.proofs.BelowLaws.{all-intro, all-false, any-intro, any_none}
-use Rattle.snapshot.specs.declared.Answer.{Answer}
-use Rattle.snapshot.specs.declared.Answer.TheVariants.{Nodes, Refused}
+use Rattle.wordset.proofs.BelowLaws.{all-intro, all-false, any-intro, any_none, count-le}
+use Rattle.std.specs.Prelude.{Result, Ok, Err}
+use Rattle.refusal.specs.declared.Refusal.{Refusal}
+use Rattle.refusal.specs.declared.Refusal.TheVariants as Refusing
 use Rattle.snapshot.specs.Read.{limit, line_fits, fits, on_count, twice, is_value, held_count, not_one, judged, Few}
 
 -- node i holds none of the values, or several
 abbrev pub held_not_one : List ℕ → List ℕ → ℕ → Bool
 held_not_one kinds out i = not (eqb (held_count kinds out i) 1)
+
+-- node i holds the value k
+abbrev pub node_holds : List ℕ → List ℕ → ℕ → ℕ → Bool
+node_holds kinds out i k = is_value kinds k && eqb (get_or out (i * 8 + k) 0) 1
 
 module _ (kinds : List ℕ) (n : ℕ) (out : List ℕ) where
   -- the entry of symbol k at node i is within its limit
@@ -73,51 +80,54 @@ module _ (kinds : List ℕ) (n : ℕ) (out : List ℕ) where
     not-one-no i h f = sym (value-nodes ∙ any_none (held_not_one kinds out) n (λ j l. ap not (eq-eqb (held_count kinds out j) 1 (f j (omega arith)))))
 
   -- the answers
-  pub judged-13 : n ≡ 0 → Refused 13 ≡ judged kinds n out
+  pub judged-13 : n ≡ 0 → Err Refusing.Snapshot ≡ judged kinds n out
   unfolding judged
   judged-13 e = simp (eq-eqb n 0 e)
 
   module _ (h : n ≡ 0 → ⊥) where
-    pub judged-14 : fits kinds n out ≡ false → Refused 14 ≡ judged kinds n out
+    pub judged-14 : fits kinds n out ≡ false → Err Refusing.Entry ≡ judged kinds n out
     unfolding judged
     judged-14 e = simp (ne_eqb n 0 h, e)
 
-    pub judged-15 : fits kinds n out ≡ true → twice kinds n out ≡ true → Refused 15 ≡ judged kinds n out
+    pub judged-15 : fits kinds n out ≡ true → twice kinds n out ≡ true → Err Refusing.Twice ≡ judged kinds n out
     unfolding judged
     judged-15 e f = simp (ne_eqb n 0 h, e, f)
 
-    pub judged-17 : fits kinds n out ≡ true → twice kinds n out ≡ false → not_one kinds n out ≡ true → Refused 17 ≡ judged kinds n out
+    pub judged-17 : fits kinds n out ≡ true → twice kinds n out ≡ false → not_one kinds n out ≡ true → Err Refusing.Held ≡ judged kinds n out
     unfolding judged
     judged-17 e f g = simp (ne_eqb n 0 h, e, f, g)
 
-    pub judged-nodes : fits kinds n out ≡ true → twice kinds n out ≡ false → not_one kinds n out ≡ false → Nodes n ≡ judged kinds n out
+    pub judged-nodes : fits kinds n out ≡ true → twice kinds n out ≡ false → not_one kinds n out ≡ false → Ok n ≡ judged kinds n out
     unfolding judged
     judged-nodes e f g = simp (ne_eqb n 0 h, e, f, g)
 
-pub one-small : (r : ℕ) (b : Bool) → r ≡ one b → r ≤ 1
-one-small r true e = omega arith
-one-small r false e = omega arith
-
-pub count_next : (P : ℕ → Bool) (i c r : ℕ) → c ≡ count_below i P → r ≡ one (P i) → c + r ≡ count_below (i + 1) P
-unfolding count_below
-count_next P i c r e f = ap₂ (λ x y. x + y) e f ∙ ap (λ k. count_below k P) (sym (add-one i))
+-- ---- counts
 
 pub count_none : (P : ℕ → Bool) → 0 ≡ count_below 0 P
 unfolding count_below
 count_none P = refl
 
--- a test that is asked of one kind only
-pub kind-no : (kind a : ℕ) (t : Bool) → (kind ≡ a → ⊥) → false ≡ (eqb kind a && t)
-kind-no kind a t h = simp (ne_eqb kind a h)
+pub count-small : (P : ℕ → Bool) (i c : ℕ) → c ≡ count_below i P → c ≤ i
+count-small P i c e = omega (arith, count-le P i)
 
-pub kind-yes : (kind a : ℕ) (t u : Bool) → kind ≡ a → t ≡ u → t ≡ (eqb kind a && u)
-kind-yes kind a t u h e = simp (e, eq-eqb kind a h)
+pub count_yes : (P : ℕ → Bool) (i c c' : ℕ) → c ≡ count_below i P → P i ≡ true → c' ≡ c + 1 → c' ≡ count_below (i + 1) P
+unfolding count_below
+count_yes P i c c' e f g = g ∙ ap₂ (λ x y. x + y) e (sym (ap one f)) ∙ ap (λ k. count_below k P) (sym (add-one i))
 
-pub judged-few : (kinds : List ℕ) (n : ℕ) (out : List ℕ) (a : Answer) → n ≤ 16 → a ≡ judged kinds n out → Few a
+pub count_no : (P : ℕ → Bool) (i c c' : ℕ) → c ≡ count_below i P → P i ≡ false → c' ≡ c → c' ≡ count_below (i + 1) P
+unfolding count_below
+count_no P i c c' e f g = g ∙ e ∙ sym (add-zero (count_below i P)) ∙ ap (λ x. count_below i P + x) (sym (ap one f)) ∙ ap (λ k. count_below k P) (sym (add-one i))
+
+-- a kind is in the list
+pub some_value-is : (kinds : List ℕ) (r : Bool) → IsAnyAnswer (λ y b. eqb y 4 ≡ b) kinds r → r ≡ any_below (length kinds) (is_value kinds)
+some_value-is kinds true h = sym (any-intro (is_value kinds) (length kinds) h.0 h.1 (h.2 0))
+some_value-is kinds false h = sym (any_none (is_value kinds) (length kinds) (λ j l. h j 0 (omega arith) l))
+
+pub judged-few : (kinds : List ℕ) (n : ℕ) (out : List ℕ) (a : Result ℕ Refusal) → n ≤ 16 → a ≡ judged kinds n out → Few a
 unfolding judged
 judged-few kinds n out a h e = subst Few (sym e) (go (eqb n 0) (fits kinds n out) (twice kinds n out) (not_one kinds n out))
   where
-    go : (a b c d : Bool) → Few (cond a (Refused 13) (cond b (cond c (Refused 15) (cond d (Refused 17) (Nodes n))) (Refused 14)))
+    go : (a b c d : Bool) → Few (cond a (Err Refusing.Snapshot) (cond b (cond c (Err Refusing.Twice) (cond d (Err Refusing.Held) (Ok n))) (Err Refusing.Entry)))
     go true b c d = tt
     go false true true d = tt
     go false true false true = tt

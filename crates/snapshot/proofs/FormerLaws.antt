@@ -9,7 +9,8 @@ use borrow.Author.Tests.{ne_eqb}
 use Rattle.wordset.specs.Below.{any_below}
 use Rattle.wordset.proofs.BelowLaws.{any_none}
 use Rattle.snapshot_text.specs.Lines.{line_count, line_store}
-use Rattle.snapshot.specs.declared.Answer.TheVariants.{Nodes, Refused}
+use Rattle.std.specs.Prelude.{Ok, Err}
+use Rattle.refusal.specs.declared.Refusal.TheVariants as Refusing
 use Rattle.snapshot.specs.Read.{is_value, held_count, not_one, fits, twice, judged, read_snapshot}
 use Rattle.snapshot.specs.Former.{former_judged, former_read}
 
@@ -21,7 +22,7 @@ module _ (kinds : List ℕ) (none : (k : ℕ) → k < length kinds → get_or ki
   judged-former : (n : ℕ) (out : List ℕ) → judged kinds n out ≡ former_judged kinds n out
   unfolding judged former_judged
   judged-former n out =
-      ap (λ b. cond (eqb n 0) (Refused 13) (cond (fits kinds n out) (cond (twice kinds n out) (Refused 15) (cond b (Refused 17) (Nodes n))) (Refused 14))) (none-held n out)
+      ap (λ b. cond (eqb n 0) (Err Refusing.Snapshot) (cond (fits kinds n out) (cond (twice kinds n out) (Err Refusing.Twice) (cond b (Err Refusing.Held) (Ok n))) (Err Refusing.Entry))) (none-held n out)
 
   pub read-former : (line s out : List ℕ) → read_snapshot line kinds s out ≡ former_read line kinds s out
   unfolding read_snapshot former_read

@@ -1,8 +1,8 @@
 -- What is answered on a snapshot's text, in the documents' words. Assumes nothing.
-use Rattle.std.specs.Prelude.{ℕ, ◌≤◌, ◌<◌, ◌≡◌, List, eqb, length, get_or}
+use Rattle.std.specs.Prelude.{ℕ, ◌≤◌, ◌<◌, ◌≡◌, List, eqb, length, get_or, Result, Ok, Err}
 use Rattle.ctl.specs.Snapshot.{entry, of_lines, NamesSingle, values_of, Legal}
-use Rattle.snapshot.specs.declared.Answer.{Answer}
-use Rattle.snapshot.specs.declared.Answer.TheVariants.{Nodes, Refused}
+use Rattle.refusal.specs.declared.Refusal.{Refusal}
+use Rattle.refusal.specs.declared.Refusal.TheVariants as Refusing
 use Rattle.snapshot_text.specs.Store.{of_store}
 use Rattle.snapshot_text.specs.Text.{Text}
 use Rattle.snapshot.specs.Read.{limit, is_value}
@@ -63,9 +63,9 @@ pub record Held (line kinds s out : List ℕ) (n : ℕ) : Type 0 where
   pub same : of_store n out ≡ of_lines lines
 
 -- The answer on the text s, with the store out afterwards. No two of these cases meet (`one_answer`), so each answer is given exactly in its case.
-pub data Answered (line kinds s out : List ℕ) : Answer → Type 0 where
-  no_text : ((lines : List (List ℕ)) → Text line (length kinds) s lines → ⊥) → Answered line kinds s out (Refused 13)
-  too-high : (lines : List (List ℕ)) → Text line (length kinds) s lines → Above kinds lines → Answered line kinds s out (Refused 14)
-  on-two : (lines : List (List ℕ)) → Text line (length kinds) s lines → Within kinds lines → OnTwo kinds lines → Answered line kinds s out (Refused 15)
-  not-one : (lines : List (List ℕ)) → Text line (length kinds) s lines → Within kinds lines → NamesSingle (λ k. eqb (get_or kinds k 0) 2) (of_lines lines) → NotOne kinds lines → Answered line kinds s out (Refused 17)
-  of-nodes : (n : ℕ) → Held line kinds s out n → Answered line kinds s out (Nodes n)
+pub data Answered (line kinds s out : List ℕ) : Result ℕ Refusal → Type 0 where
+  no_text : ((lines : List (List ℕ)) → Text line (length kinds) s lines → ⊥) → Answered line kinds s out (Err Refusing.Snapshot)
+  too-high : (lines : List (List ℕ)) → Text line (length kinds) s lines → Above kinds lines → Answered line kinds s out (Err Refusing.Entry)
+  on-two : (lines : List (List ℕ)) → Text line (length kinds) s lines → Within kinds lines → OnTwo kinds lines → Answered line kinds s out (Err Refusing.Twice)
+  not-one : (lines : List (List ℕ)) → Text line (length kinds) s lines → Within kinds lines → NamesSingle (λ k. eqb (get_or kinds k 0) 2) (of_lines lines) → NotOne kinds lines → Answered line kinds s out (Err Refusing.Held)
+  of-nodes : (n : ℕ) → Held line kinds s out n → Answered line kinds s out (Ok n)

@@ -1,9 +1,9 @@
 -- What is answered on a snapshot's text, by its node count and its entries. Assumes nothing.
-use Rattle.std.specs.Prelude.{ℕ, ◌+◌, ◌*◌, ◌≤◌, Bool, cond, not, ◌&&◌, List, eqb, leb, length, get_or}
+use Rattle.std.specs.Prelude.{ℕ, ◌+◌, ◌*◌, ◌≤◌, Bool, cond, not, ◌&&◌, List, eqb, leb, length, get_or, Result, Ok, Err}
 use Rattle.wordset.specs.Below.{all_below, any_below, count_below}
 use Rattle.snapshot_text.specs.Lines.{line_count, line_store}
-use Rattle.snapshot.specs.declared.Answer.{Answer}
-use Rattle.snapshot.specs.declared.Answer.TheVariants.{Nodes, Refused}
+use Rattle.refusal.specs.declared.Refusal.{Refusal}
+use Rattle.refusal.specs.declared.Refusal.TheVariants as Refusing
 
 -- ---- entries: kinds are 1 for a mark, 2 for a name, 3 for a field, 4 for a value
 
@@ -40,17 +40,17 @@ unfoldable pub not_one : List ℕ → ℕ → List ℕ → Bool
 not_one kinds n out = any_below (length kinds) (is_value kinds) && any_below n (λ i. not (eqb (held_count kinds out i) 1))
 
 -- the answer on the node count, 0 for text that is no snapshot's, and the entries: the first of 13, 14, 15 and 17 that applies
-unfoldable pub judged : List ℕ → ℕ → List ℕ → Answer
+unfoldable pub judged : List ℕ → ℕ → List ℕ → Result ℕ Refusal
 judged kinds n out =
-    cond (eqb n 0) (Refused 13)
-    (cond (fits kinds n out) (cond (twice kinds n out) (Refused 15) (cond (not_one kinds n out) (Refused 17) (Nodes n)))
-    (Refused 14))
+    cond (eqb n 0) (Err Refusing.Snapshot)
+    (cond (fits kinds n out) (cond (twice kinds n out) (Err Refusing.Twice) (cond (not_one kinds n out) (Err Refusing.Held) (Ok n)))
+    (Err Refusing.Entry))
 
 -- The answer on a snapshot's text
-unfoldable pub read_snapshot : List ℕ → List ℕ → List ℕ → List ℕ → Answer
+unfoldable pub read_snapshot : List ℕ → List ℕ → List ℕ → List ℕ → Result ℕ Refusal
 read_snapshot line kinds s out = judged kinds (line_count line (length kinds) s out) (line_store line (length kinds) s out)
 
 -- a node count in an answer is at most 16
-abbrev pub Few : Answer → Type 0
-Few (Nodes n) = n ≤ 16
-Few (Refused k) = Unit {0}
+abbrev pub Few : Result ℕ Refusal → Type 0
+Few (Ok n) = n ≤ 16
+Few (Err e) = Unit {0}

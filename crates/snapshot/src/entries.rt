@@ -1,22 +1,13 @@
 // The entries of a snapshot against their limits, its names and its values. Assumes nothing.
 ghost use Rattle.std.specs.Prelude.{◌≡◌, ◌+◌, ◌*◌, ◌≤◌, ◌<◌, ◌&&◌, eqb, leb, length};
-ghost use Rattle.wordset.specs.Below.{one, any_below};
+ghost use Rattle.wordset.specs.Below.{any_below};
 ghost use Rattle.snapshot.specs.Read.{limit, line_fits, fits, on_count, twice, is_value, held_count, not_one};
-
-fn wide(x: u8) -> usize
-    ensures { result ≡ x }
-{
-    x as usize
-}
 
 // The largest entry of a symbol of this kind, on n nodes.
 fn bound(kind: u8, n: usize) -> usize
     ensures { result ≡ limit kind n }
 {
-    if kind == 3 {
-        return n;
-    }
-    1
+    if kind == 3 { n } else { 1 }
 }
 
 // Whether the entries of node i are within their limits.
@@ -24,12 +15,10 @@ fn line_fits(kinds: &[u8], n: usize, out: &[u8], i: usize) -> bool
     requires { (length kinds.now ≤ 8) × (i * 8 + 8 ≤ length out.now) }
     ensures { result ≡ line_fits kinds.now n out.now i }
 {
-    let mut k = 0;
-    while k < kinds.len() {
-        if bound(kinds[k], n) < wide(out[i * 8 + k]) {
+    for (k, &kind) in kinds.iter().enumerate() {
+        if bound(kind, n) < usize::from(out[i * 8 + k]) {
             return false;
         }
-        k += 1;
     }
     true
 }
@@ -39,23 +28,12 @@ pub fn all_fit(kinds: &[u8], n: usize, out: &[u8]) -> bool
     requires { (length kinds.now ≤ 8) × (n * 8 ≤ length out.now) }
     ensures { result ≡ fits kinds.now n out.now }
 {
-    let mut i = 0;
-    while i < n {
+    for i in 0..n {
         if !line_fits(kinds, n, out, i) {
             return false;
         }
-        i += 1;
     }
     true
-}
-
-fn one_if(on: bool) -> usize
-    ensures { result ≡ one on }
-{
-    if on {
-        return 1;
-    }
-    0
 }
 
 // How many nodes symbol k is on.
@@ -64,10 +42,10 @@ fn on_count(out: &[u8], n: usize, k: usize) -> usize
     ensures { result ≡ on_count out.now n k }
 {
     let mut c = 0;
-    let mut i = 0;
-    while i < n {
-        c += one_if(out[i * 8 + k] == 1);
-        i += 1;
+    for i in 0..n {
+        if out[i * 8 + k] == 1 {
+            c += 1;
+        }
     }
     c
 }
@@ -77,10 +55,7 @@ fn name_twice(kind: u8, out: &[u8], n: usize, k: usize) -> bool
     requires { (k < 8) × (n * 8 ≤ length out.now) }
     ensures { result ≡ (eqb kind 2 && leb 2 (on_count out.now n k)) }
 {
-    if kind != 2 {
-        return false;
-    }
-    2 <= on_count(out, n, k)
+    kind == 2 && 2 <= on_count(out, n, k)
 }
 
 // Whether a name is on two nodes.
@@ -88,12 +63,10 @@ pub fn some_twice(kinds: &[u8], n: usize, out: &[u8]) -> bool
     requires { (length kinds.now ≤ 8) × (n * 8 ≤ length out.now) }
     ensures { result ≡ twice kinds.now n out.now }
 {
-    let mut k = 0;
-    while k < kinds.len() {
-        if name_twice(kinds[k], out, n, k) {
+    for (k, &kind) in kinds.iter().enumerate() {
+        if name_twice(kind, out, n, k) {
             return true;
         }
-        k += 1;
     }
     false
 }
@@ -102,24 +75,14 @@ pub fn some_twice(kinds: &[u8], n: usize, out: &[u8]) -> bool
 fn some_value(kinds: &[u8]) -> bool
     ensures { result ≡ any_below (length kinds.now) (is_value kinds.now) }
 {
-    let mut k = 0;
-    while k < kinds.len() {
-        if kinds[k] == 4 {
-            return true;
-        }
-        k += 1;
-    }
-    false
+    kinds.contains(&4)
 }
 
 // Whether the entry is that of a value that a node holds.
 fn holds(kind: u8, entry: u8) -> bool
     ensures { result ≡ (eqb kind 4 && eqb entry 1) }
 {
-    if kind != 4 {
-        return false;
-    }
-    entry == 1
+    kind == 4 && entry == 1
 }
 
 // How many of the values node i holds.
@@ -128,10 +91,10 @@ fn held_count(kinds: &[u8], out: &[u8], i: usize) -> usize
     ensures { result ≡ held_count kinds.now out.now i }
 {
     let mut c = 0;
-    let mut k = 0;
-    while k < kinds.len() {
-        c += one_if(holds(kinds[k], out[i * 8 + k]));
-        k += 1;
+    for (k, &kind) in kinds.iter().enumerate() {
+        if holds(kind, out[i * 8 + k]) {
+            c += 1;
+        }
     }
     c
 }
@@ -144,12 +107,10 @@ pub fn some_not_one(kinds: &[u8], n: usize, out: &[u8]) -> bool
     if !some_value(kinds) {
         return false;
     }
-    let mut i = 0;
-    while i < n {
+    for i in 0..n {
         if held_count(kinds, out, i) != 1 {
             return true;
         }
-        i += 1;
     }
     false
 }

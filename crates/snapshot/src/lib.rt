@@ -8,36 +8,32 @@ ghost use Rattle.std.specs.Prelude.{◌≡◌, ◌*◌, ◌≤◌, length};
 ghost use Rattle.snapshot_text.specs.Lines.{line_store};
 ghost use Rattle.snapshot.specs.Read.{judged, read_snapshot, Few};
 
-// The number of the refusal, or the node count.
-#[derive(Clone, Copy)]
-pub enum Answer {
-    Refused(u8),
-    Nodes(usize),
-}
+use refusal::Refusal;
 
 // The answer on the node count, 0 for text that is no snapshot's, and the entries.
-fn judge(kinds: &[u8], n: usize, out: &[u8]) -> Answer
+#[tactic(auto, unfolding(crate::specs::Read::judged))]
+fn judge(kinds: &[u8], n: usize, out: &[u8]) -> Result<usize, Refusal>
     requires { (length kinds.now ≤ 8) × (n * 8 ≤ length out.now) }
     ensures { result ≡ judged kinds.now n out.now }
 {
     if n == 0 {
-        return Answer::Refused(13);
+        return Err(Refusal::Snapshot);
     }
     if !entries::all_fit(kinds, n, out) {
-        return Answer::Refused(14);
+        return Err(Refusal::Entry);
     }
     if entries::some_twice(kinds, n, out) {
-        return Answer::Refused(15);
+        return Err(Refusal::Twice);
     }
     if entries::some_not_one(kinds, n, out) {
-        return Answer::Refused(17);
+        return Err(Refusal::Held);
     }
-    Answer::Nodes(n)
+    Ok(n)
 }
 
-// The answer on the text s under line 1 and the kinds of its symbols. The entries go to the store, which is as it was where s is too long or
+// The node count of the text s under line 1 and the kinds of its symbols, or why it is refused. The entries go to the store, which is as it was where s is too long or
 // does not begin with line 1.
-pub fn read(line: &[u8], kinds: &[u8], s: &[u8], out: &mut [u8]) -> Answer
+pub fn read(line: &[u8], kinds: &[u8], s: &[u8], out: &mut [u8]) -> Result<usize, Refusal>
     requires { (length kinds.now ≤ 8) × (128 ≤ length out.old) }
     ensures value { result ≡ read_snapshot line.now kinds.now s.now out.old }
     ensures out_after { out.new ≡ line_store line.now (length kinds.now) s.now out.old }

@@ -8,11 +8,13 @@ use mathlib.Core.List.{List, [], ◌∷◌, ◌++◌, append_assoc, append-nil}
 use lib.Dec.{eqb, ltb}
 use lib.ListN.{get_or, set, replicate}
 use borrow.Author.Tests.{ltb-true, ltb-false, eqb-true, eqb-false}
+use Rattle.std.specs.Prelude.{Option, Some, None, IfSome}
 use Rattle.ctl.proofs.BoolLaws.{decide}
 use Rattle.snapshot_text.specs.declared.State.{State}
-use Rattle.snapshot_text.specs.Lines.{state_of, start_state, bad_state, digit_step, byte_step, run, ended}
+use Rattle.snapshot_text.specs.Lines.{state_of, start_state, digit_step, byte_step, run, ended}
 use Rattle.snapshot_text.specs.Text.{decimal, lines_text}
 use Rattle.snapshot_text.proofs.Listed.{listed}
+use Rattle.snapshot_text.proofs.ReadLaws.{read_on}
 use Rattle.snapshot_text.proofs.Spelling.{parts, decimal-one, decimal-two}
 use Rattle.snapshot_text.proofs.Storing.{row_at, before, Kept, frame, kept_set, next-entry, next-line}
 
@@ -43,82 +45,82 @@ record Spelt (m : ℕ) (t : List ℕ) (st : State) (out : List ℕ) : Type 0 whe
 
 module _ (m : ℕ) (hm : m ≤ 8) (t : List ℕ) (b : ℕ) where
   -- what a byte leads to: refused, or still the text of what is stored
-  abbrev Result : List ℕ → State → Type 0
-  Result out x = (x ≡ bad_state) ⊎ Spelt m (t ++ (b ∷ [])) x out
+  abbrev Result : List ℕ → Option State → Type 0
+  Result out x = IfSome x (λ y. Spelt m (t ++ (b ∷ [])) y out)
 
   -- after the digits of an entry v
   module _ (out : List ℕ) (i k v : ℕ) (hk : k < m) (hi : i < 16) (hv : v < 100) (r : Kept m out i k) (e : t ≡ before m out i k ++ decimal v) where
-    after-space : b ≡ 32 → (c : Bool) → ltb (k + 1) m ≡ c → Result (set out (i * 8 + k) v) (cond c (state_of i (k + 1) 0 0) bad_state)
+    after-space : b ≡ 32 → (c : Bool) → ltb (k + 1) m ≡ c → Result (set out (i * 8 + k) v) (cond c (Some (state_of i (k + 1) 0 0)) None)
     unfolding pend
-    after-space eb false ec = inl refl
+    after-space eb false ec = tt
     after-space eb true ec =
         let q : Kept m (set out (i * 8 + k) v) i k = kept_set m hm out i k v hk hv r in
-        inr (record {
+        record {
           good = fresh i (k + 1);
           symbol-in = ltb-true (k + 1) m ec;
           node_in = omega arith;
           text = ap₂ (λ (x : List ℕ) y. x ++ (y ∷ [])) e eb ∙ append_assoc (before m out i k) (decimal v) (32 ∷ []) ∙ next-entry m hm out i k v hk hi r.long ∙ sym (append-nil (before m (set out (i * 8 + k) v) i (k + 1)));
           kept = record { small = q.small; beyond = λ p h. q.beyond p (omega arith); blank = q.blank; long = q.long };
           here = λ z. q.beyond (i * 8 + (k + 1)) (omega arith);
-        })
+        }
 
-    after-newline : b ≡ 10 → (c : Bool) → eqb (k + 1) m ≡ c → Result (set out (i * 8 + k) v) (cond c (state_of (i + 1) 0 0 0) bad_state)
+    after-newline : b ≡ 10 → (c : Bool) → eqb (k + 1) m ≡ c → Result (set out (i * 8 + k) v) (cond c (Some (state_of (i + 1) 0 0 0)) None)
     unfolding pend
-    after-newline eb false ec = inl refl
+    after-newline eb false ec = tt
     after-newline eb true ec =
         let q : Kept m (set out (i * 8 + k) v) i k = kept_set m hm out i k v hk hv r in
-        inr (record {
+        record {
           good = fresh (i + 1) 0;
           symbol-in = omega arith;
           node_in = omega arith;
           text = ap₂ (λ (x : List ℕ) y. x ++ (y ∷ [])) e eb ∙ append_assoc (before m out i k) (decimal v) (10 ∷ []) ∙ next-line m hm out i k v hk hi r.long (eqb-true (k + 1) m ec) ∙ sym (append-nil (before m (set out (i * 8 + k) v) (i + 1) 0));
           kept = record { small = q.small; beyond = λ p h. q.beyond p (omega arith); blank = q.blank; long = q.long };
           here = λ z. q.beyond ((i + 1) * 8 + 0) (omega arith);
-        })
+        }
 
-  or-bad : (out : List ℕ) (c : Bool) {y : State} → (c ≡ false → Result out y) → Result out (cond c bad_state y)
-  or-bad out true f = inl refl
-  or-bad out false f = f refl
+  or-none : (out : List ℕ) (c : Bool) (y : Option State) → (c ≡ false → Result out y) → Result out (cond c None y)
+  or-none out true y f = tt
+  or-none out false y f = f refl
 
-  no-bad : (out : List ℕ) (c : Bool) {y : State} → (c ≡ true → Result out y) → Result out (cond c y bad_state)
-  no-bad out true f = f refl
-  no-bad out false f = inl refl
+  else-none : (out : List ℕ) (c : Bool) (y : Option State) → (c ≡ true → Result out y) → Result out (cond c y None)
+  else-none out true y f = f refl
+  else-none out false y f = tt
 
-  pick3 : (out : List ℕ) {x y z : State} (c d : Bool) → (c ≡ true → Result out x) → (d ≡ true → Result out y) → Result out z → Result out (cond c x (cond d y z))
-  pick3 out true d f g h = f refl
-  pick3 out false true f g h = g refl
-  pick3 out false false f g h = h
+  pick3 : (out : List ℕ) (x y z : Option State) (c d : Bool) → (c ≡ true → Result out x) → (d ≡ true → Result out y) → Result out z → Result out (cond c x (cond d y z))
+  pick3 out x y z true d f g h = f refl
+  pick3 out x y z false true f g h = g refl
+  pick3 out x y z false false f g h = h
 
   -- a first digit
   digit-fresh : (out : List ℕ) (i k : ℕ) → k < m → Kept m out i k → t ≡ before m out i k ++ [] → Result (set out (i * 8 + k) 0) (digit_step (state_of i k 0 0) b)
   unfolding pend
   digit-fresh out i k hk r e =
-      or-bad (set out (i * 8 + k) 0) (ltb 15 i) (λ e1. or-bad (set out (i * 8 + k) 0) (ltb b 48) (λ e2. or-bad (set out (i * 8 + k) 0) (ltb 57 b) (λ e3.
+      or-none (set out (i * 8 + k) 0) (ltb 15 i) _ (λ e1. or-none (set out (i * 8 + k) 0) (ltb b 48) _ (λ e2. or-none (set out (i * 8 + k) 0) (ltb 57 b) _ (λ e3.
       let h1 = ltb-false 15 i e1 in
       let h2 = ltb-false b 48 e2 in
       let h3 = ltb-false 57 b e3 in
       let u : 48 + (b - 48) ≡ b = omega arith in
-      inr (record {
+      record {
         good = first i k (b - 48) (omega arith) (omega arith);
         symbol-in = hk;
         node_in = omega arith;
         text = ap (λ (x : List ℕ). x ++ (b ∷ [])) (e ∙ append-nil (before m out i k)) ∙ ap₂ (λ (x y : List ℕ). x ++ y) (sym (frame m hm out i k 0 hk)) (ap (λ x. x ∷ []) (sym u) ∙ sym (decimal-one (b - 48) (omega arith)));
         kept = kept_set m hm out i k 0 hk (omega arith) r;
         here = λ z. absurd (omega arith);
-      }))))
+      })))
 
   -- a second digit
   digit-first : (out : List ℕ) (i k v : ℕ) → k < m → v < 10 → Kept m out i k → t ≡ before m out i k ++ decimal v → Result (set out (i * 8 + k) v) (digit_step (state_of i k 1 v) b)
   unfolding pend
   digit-first out i k v hk hv r e =
-      or-bad (set out (i * 8 + k) v) (ltb 15 i) (λ e1. or-bad (set out (i * 8 + k) v) (ltb b 48) (λ e2. or-bad (set out (i * 8 + k) v) (ltb 57 b) (λ e3.
-      or-bad (set out (i * 8 + k) v) (eqb v 0) (λ e4. no-bad (set out (i * 8 + k) v) (ltb v 10) (λ e5.
+      or-none (set out (i * 8 + k) v) (ltb 15 i) _ (λ e1. or-none (set out (i * 8 + k) v) (ltb b 48) _ (λ e2. or-none (set out (i * 8 + k) v) (ltb 57 b) _ (λ e3.
+      or-none (set out (i * 8 + k) v) (eqb v 0) _ (λ e4. else-none (set out (i * 8 + k) v) (ltb v 10) _ (λ e5.
       let h1 = ltb-false 15 i e1 in
       let h2 = ltb-false b 48 e2 in
       let h3 = ltb-false 57 b e3 in
       let h4 : 1 ≤ v = pos v (eqb-false v 0 e4) in
       let u : 48 + (b - 48) ≡ b = omega arith in
-      inr (record {
+      record {
         good = second i k (v * 10 + (b - 48)) (omega arith) (omega arith) (omega arith);
         symbol-in = hk;
         node_in = omega arith;
@@ -126,7 +128,7 @@ module _ (m : ℕ) (hm : m ≤ 8) (t : List ℕ) (b : ℕ) where
             ∙ ap₂ (λ (x y : List ℕ). x ++ y) (sym (frame m hm out i k v hk)) (ap (λ (x : List ℕ). x ++ (b ∷ [])) (decimal-one v hv) ∙ ap (λ x. (48 + v) ∷ x ∷ []) (sym u) ∙ sym (decimal-two v (b - 48) h4 (omega arith)));
         kept = kept_set m hm out i k v hk (omega arith) r;
         here = λ z. absurd (omega arith);
-      }))))))
+      })))))
     where
       pos : (v : ℕ) → (v ≡ 0 → ⊥) → 1 ≤ v
       pos zero h = absurd (h refl)
@@ -134,57 +136,40 @@ module _ (m : ℕ) (hm : m ≤ 8) (t : List ℕ) (b : ℕ) where
 
   digit-second : (out : List ℕ) (i k v : ℕ) → Result out (digit_step (state_of i k 2 v) b)
   digit-second out i k v =
-      or-bad out (ltb 15 i) (λ e1. or-bad out (ltb b 48) (λ e2. or-bad out (ltb 57 b) (λ e3. inl refl)))
+      or-none out (ltb 15 i) _ (λ e1. or-none out (ltb b 48) _ (λ e2. or-none out (ltb 57 b) _ (λ e3. tt)))
 
   step-good : (st : State) (out : List ℕ) (g : Good st) → st.symbol < m → t ≡ before m out st.node st.symbol ++ pend g → Kept m out st.node st.symbol
       → Result (set out (st.node * 8 + st.symbol) st.value) (byte_step m st b)
   unfolding byte_step pend
   step-good st out (fresh i k) hk e r =
-      pick3 (set out (i * 8 + k) 0) (eqb b 32) (eqb b 10) (λ eb. inl refl) (λ eb. inl refl) (digit-fresh out i k hk r e)
+      pick3 (set out (i * 8 + k) 0) _ _ _ (eqb b 32) (eqb b 10) (λ eb. tt) (λ eb. tt) (digit-fresh out i k hk r e)
   step-good st out (first i k v hi hv) hk e r =
-      pick3 (set out (i * 8 + k) v) (eqb b 32) (eqb b 10)
+      pick3 (set out (i * 8 + k) v) _ _ _ (eqb b 32) (eqb b 10)
       (λ eb. after-space out i k v hk hi (omega arith) r e (eqb-true b 32 eb) (ltb (k + 1) m) refl)
       (λ eb. after-newline out i k v hk hi (omega arith) r e (eqb-true b 10 eb) (eqb (k + 1) m) refl)
       (digit-first out i k v hk hv r e)
   step-good st out (second i k v hi hv lv) hk e r =
-      pick3 (set out (i * 8 + k) v) (eqb b 32) (eqb b 10)
+      pick3 (set out (i * 8 + k) v) _ _ _ (eqb b 32) (eqb b 10)
       (λ eb. after-space out i k v hk hi lv r e (eqb-true b 32 eb) (ltb (k + 1) m) refl)
       (λ eb. after-newline out i k v hk hi lv r e (eqb-true b 10 eb) (eqb (k + 1) m) refl)
       (digit-second (set out (i * 8 + k) v) i k v)
 
 -- ---- all bytes
 
--- a text that is refused stays so
-bad-step : (m b : ℕ) → byte_step m bad_state b ≡ bad_state
-unfolding byte_step
-bad-step m b = go (eqb b 32) (eqb b 10) (ltb b 48) (ltb 57 b)
-  where
-    go : (c d e f : Bool) → cond c bad_state (cond d bad_state (cond e bad_state (cond f bad_state bad_state))) ≡ bad_state
-    go true d e f = refl
-    go false true e f = refl
-    go false false true f = refl
-    go false false false true = refl
-    go false false false false = refl
-
-bad-run : (m : ℕ) (out s : List ℕ) → (run m bad_state out s).state ≡ bad_state
-unfolding run
-bad-run m out [] = refl
-bad-run m out (b ∷ s) = ap (λ x. (run m x (set out 0 0) s).state) (bad-step m b) ∙ bad-run m (set out 0 0) s
-
 -- the rest of a text
-sound : (m : ℕ) → m ≤ 8 → (s t : List ℕ) (st : State) (out : List ℕ) → Spelt m t st out → ((run m st out s).state ≡ bad_state) ⊎ Spelt m (t ++ s) (run m st out s).state (run m st out s).store
+sound-on : (m : ℕ) (s t : List ℕ) (b : ℕ) (out : List ℕ) (x : Option State)
+    → ((y : State) → Spelt m (t ++ (b ∷ [])) y out → IfSome (run m y out s).state (λ z. Spelt m ((t ++ (b ∷ [])) ++ s) z (run m y out s).store))
+    → IfSome x (λ y. Spelt m (t ++ (b ∷ [])) y out) → IfSome (read_on m out s x).state (λ z. Spelt m (t ++ (b ∷ s)) z (read_on m out s x).store)
+sound-on m s t b out None ih q = tt
+sound-on m s t b out (Some y) ih q = subst (λ l. IfSome (run m y out s).state (λ z. Spelt m l z (run m y out s).store)) (append_assoc t (b ∷ []) s) (ih y q)
+
+sound : (m : ℕ) → m ≤ 8 → (s t : List ℕ) (st : State) (out : List ℕ) → Spelt m t st out → IfSome (run m st out s).state (λ z. Spelt m (t ++ s) z (run m st out s).store)
 unfolding run
-sound m hm [] t st out r = inr (subst (λ x. Spelt m x st out) (sym (append-nil t)) r)
-sound m hm (b ∷ s) t st out r = go (step-good m hm t b st out r.good r.symbol-in r.text r.kept) (sound m hm s)
-  where
-    go : (byte_step m st b ≡ bad_state) ⊎ Spelt m (t ++ (b ∷ [])) (byte_step m st b) (set out (st.node * 8 + st.symbol) st.value)
-        → ((t : List ℕ) (st : State) (out : List ℕ) → Spelt m t st out → ((run m st out s).state ≡ bad_state) ⊎ Spelt m (t ++ s) (run m st out s).state (run m st out s).store)
-        → ((run m st out (b ∷ s)).state ≡ bad_state) ⊎ Spelt m (t ++ (b ∷ s)) (run m st out (b ∷ s)).state (run m st out (b ∷ s)).store
-    go (inl e) ih = inl (ap (λ x. (run m x (set out (st.node * 8 + st.symbol) st.value) s).state) e ∙ bad-run m (set out (st.node * 8 + st.symbol) st.value) s)
-    go (inr q) ih = elim (ih (t ++ (b ∷ [])) (byte_step m st b) (set out (st.node * 8 + st.symbol) st.value) q) [
-      | inl e ↦ inl e
-      | inr w ↦ inr (subst (λ x. Spelt m x (run m st out (b ∷ s)).state (run m st out (b ∷ s)).store) (append_assoc t (b ∷ []) s) w)
-    ]
+sound m hm [] t st out r = subst (λ x. Spelt m x st out) (sym (append-nil t)) r
+sound m hm (b ∷ s) t st out r =
+    sound-on m s t b (set out (st.node * 8 + st.symbol) st.value) (byte_step m st b)
+    (λ y. sound m hm s (t ++ (b ∷ [])) y (set out (st.node * 8 + st.symbol) st.value))
+    (step-good m hm t b st out r.good r.symbol-in r.text r.kept)
 
 zeros-at : (n p : ℕ) → ◌≡◌ {A = ℕ} (get_or (replicate n 0) p 0) 0
 zeros-at zero p = refl
@@ -214,12 +199,12 @@ pub record Closed (m : ℕ) (t : List ℕ) (n : ℕ) (out : List ℕ) : Type 0 w
   pub kept : Kept m out n 0
   pub here : get_or out (n * 8 + 0) 0 ≡ 0
 
-close : (m : ℕ) (t : List ℕ) (st : State) (out : List ℕ) (n : ℕ) → 1 ≤ n → Spelt m t st out → ended st ≡ n → Closed m t n out
+close : (m : ℕ) (t : List ℕ) (st : State) (out : List ℕ) (n : ℕ) → 1 ≤ n → Spelt m t st out → ended (Some st) ≡ n → Closed m t n out
 unfolding pend before parts
 close m t st out n hn r e = go st r.good r.node_in r.text r.kept r.here e
   where
     go : (st : State) (g : Good st) → st.node ≤ 16 → t ≡ before m out st.node st.symbol ++ pend g → Kept m out st.node st.symbol
-        → (st.digits ≡ 0 → get_or out (st.node * 8 + st.symbol) 0 ≡ 0) → ended st ≡ n → Closed m t n out
+        → (st.digits ≡ 0 → get_or out (st.node * 8 + st.symbol) 0 ≡ 0) → ended (Some st) ≡ n → Closed m t n out
     go st (fresh i k) h x q z e = at (decide (eqb k 0))
       where
         at : (eqb k 0 ≡ true) ⊎ (eqb k 0 ≡ false) → Closed m t n out
@@ -238,9 +223,8 @@ close m t st out n hn r e = go st r.good r.node_in r.text r.kept r.here e
 
 -- A text that is read to the end of line n is the text of the first n lines in the store
 pub spelt : (m : ℕ) → 1 ≤ m → m ≤ 8 → (s : List ℕ) (n : ℕ) → 1 ≤ n → ended (run m start_state (replicate 128 0) s).state ≡ n → Closed m s n (run m start_state (replicate 128 0) s).store
-spelt m h1 hm s n hn e = go (sound m hm s [] start_state (replicate 128 0) (begin-spelt m h1))
+spelt m h1 hm s n hn e = go (run m start_state (replicate 128 0) s).state (sound m hm s [] start_state (replicate 128 0) (begin-spelt m h1)) e
   where
-    go : ((run m start_state (replicate 128 0) s).state ≡ bad_state) ⊎ Spelt m s (run m start_state (replicate 128 0) s).state (run m start_state (replicate 128 0) s).store
-        → Closed m s n (run m start_state (replicate 128 0) s).store
-    go (inl w) = absurd (let q : 0 ≡ n = ap ended (sym w) ∙ e in omega arith)
-    go (inr w) = close m s (run m start_state (replicate 128 0) s).state (run m start_state (replicate 128 0) s).store n hn w e
+    go : (x : Option State) → IfSome x (λ y. Spelt m s y (run m start_state (replicate 128 0) s).store) → ended x ≡ n → Closed m s n (run m start_state (replicate 128 0) s).store
+    go None q e = absurd (omega arith)
+    go (Some y) q e = close m s y (run m start_state (replicate 128 0) s).store n hn q e

@@ -1,49 +1,25 @@
 -- The reader takes exactly the texts of snapshots, and its store holds their entries. Assumes nothing.
-use Prim.Native.Nat.{ℕ, suc, ◌+◌, ◌*◌, ◌≤◌, ◌<◌}
+use Prim.Native.Nat.{ℕ, ◌+◌, ◌*◌, ◌≤◌, ◌<◌}
 use native.Mathlib.Omega.{arith}
-use native.Mathlib.Numerals.{add-one}
 use native.Mathlib.Decide.{dec_le}
 use mathlib.Core.Path.{◌≡◌, refl, sym, ap, ap₂, ◌∙◌, subst, fun_ext}
 use mathlib.Core.Logic.{◌⊎◌, inl, inr}
-use mathlib.Core.Bool.{Bool, true, false, cond, ◌&&◌}
+use mathlib.Core.Bool.{Bool, true, false, cond}
 use mathlib.Core.List.{List, [], ◌∷◌, ◌++◌}
 use lib.Dec.{eqb, ltb}
-use lib.ListN.{length, get_or, take, drop, replicate, get_or-append, get_or-eq_default}
-use lib.Seq.{split_at, ext_get_or, get_or-take, length-take-le, get_or-append_seam, drop-append-add}
-use Rattle.wordset.proofs.BelowLaws.{all-intro, all-elim}
-use Rattle.wordset.specs.Below.{all_below}
-use borrow.Author.Tests.{ltb-true, ltb-false, eqb-true, eq-eqb}
+use lib.ListN.{length, get_or, drop, replicate, get_or-eq_default}
+use lib.Seq.{drop-append-add}
+use borrow.Author.Tests.{ltb-true, ltb-false}
 use Rattle.ctl.specs.Snapshot.{Snapshot, entry, of_lines}
-use Rattle.ctl.proofs.BoolLaws.{decide, and_both}
+use Rattle.ctl.proofs.BoolLaws.{decide}
 use Rattle.snapshot_text.specs.Store.{entry_at, of_store}
 use Rattle.snapshot_text.specs.Lines.{start_state, Ran, run, starts, ran, ended, line_count, line_store}
 use Rattle.snapshot_text.specs.Text.{lines_text, Text, Taken}
-use Rattle.snapshot_text.proofs.ReadLaws.{starts-long, ran-count, ran_store}
+use Rattle.snapshot_text.proofs.ReadLaws.{starts-split, starts-text, ran-count, ran_store}
 use Rattle.snapshot_text.proofs.Listed.{listed, listed-length, listed_at, listed-past}
 use Rattle.snapshot_text.proofs.Storing.{row_at}
 use Rattle.snapshot_text.proofs.Spelt.{Closed, spelt}
 use Rattle.snapshot_text.proofs.Folding.{fold-run}
-
--- ---- line 1
-
-starts-split : (line s : List ℕ) → starts line s ≡ true → s ≡ line ++ (10 ∷ drop (length line + 1) s)
-unfolding starts
-starts-split line s e =
-    let p = and_both (all_below (length line) (λ i. eqb (get_or s i 0) (get_or line i 0))) (eqb (get_or s (length line) 0) 10) e in
-    let h = starts-long line s e in
-    let front : take (length line) s ≡ line = ext_get_or 0 (take (length line) s) line (length-take-le (length line) s (omega arith))
-    (λ i l. let l' : i < length line = subst (λ n. i < n) (length-take-le (length line) s (omega arith)) l in
-    get_or-take (length line) s i 0 l' ∙ eqb-true (get_or s i 0) (get_or line i 0) (all-elim (λ i. eqb (get_or s i 0) (get_or line i 0)) (length line) p.0 i l')) in
-    split_at s (length line) 0 h
-    ∙ ap₂ (λ (x : List ℕ) y. x ++ (y ∷ drop (suc (length line)) s)) front (eqb-true (get_or s (length line) 0) 10 p.1)
-    ∙ ap (λ n. line ++ (10 ∷ drop n s)) (sym (add-one (length line)))
-
-starts-text : (line rest : List ℕ) → starts line (line ++ (10 ∷ rest)) ≡ true
-unfolding starts
-starts-text line rest =
-    ap₂ ◌&&◌
-    (all-intro (λ i. eqb (get_or (line ++ (10 ∷ rest)) i 0) (get_or line i 0)) (length line) (λ i h. eq-eqb (get_or (line ++ (10 ∷ rest)) i 0) (get_or line i 0) (get_or-append line (10 ∷ rest) 0 i h)))
-    (eq-eqb (get_or (line ++ (10 ∷ rest)) (length line) 0) 10 (get_or-append_seam line 10 rest 0))
 
 -- ---- the lines in the store at the end of the last line
 

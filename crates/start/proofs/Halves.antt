@@ -1,12 +1,12 @@
 -- A store in two halves of w words, filled side by side: the first has the types without a name, the second those with one. Assumes nothing.
-use mathlib.Core.Path.{◌≡◌, refl, sym, ap, ◌∙◌, subst}
+use mathlib.Core.Path.{◌≡◌, sym, ap, ◌∙◌, subst}
 use mathlib.Core.Bool.{Bool}
 use mathlib.Core.List.{List}
 use mathlib.Core.Logic.{◌⊎◌, inl, inr}
 use Prim.Native.Nat.{ℕ, ◌+◌, ◌*◌, ◌/◌, ◌%◌, ◌≤◌, ◌<◌}
 use native.Mathlib.Omega.{arith}
 use lib.ListN.{length, get_or, set, length-set}
-use lib.Seq.{get_or-set_other, get_or-set_same, lt-length-set}
+use lib.Seq.{get_or-set_other, get_or-set_same}
 use Rattle.wordset.specs.Answers.{Answers}
 use Rattle.wordset.specs.Words.{member}
 use Rattle.wordset.proofs.BelowLaws.{top}
@@ -17,38 +17,26 @@ pub answered : (P : ℕ → Bool) (ws : List ℕ) (k t j : ℕ) → Answers P (t
 answered P ws k t j a e = let q : t / 64 * 64 + t % 64 ≡ t = omega arith in ap (member ws) (sym e) ∙ member-at ws k (t % 64) (omega arith) ∙ sym (a.each (t % 64) (omega arith)) ∙ ap P q
 
 -- the first k words of each half answer
-pub record Halved (P Q : ℕ → Bool) (d : List ℕ) (w : ℕ) (ws : List ℕ) (k : ℕ) : Type 0 where
-  pub within : k ≤ w
-  pub long : length ws ≡ length d
+pub record Halved (P Q : ℕ → Bool) (w : ℕ) (ws : List ℕ) (k : ℕ) : Type 0 where
   pub first : (l : ℕ) → l < k → Answers P l (get_or ws l 0)
   pub second : (l : ℕ) → l < k → Answers Q l (get_or ws (w + l) 0)
 
-module _ {P Q : ℕ → Bool} {d : List ℕ} {w : ℕ} where
-  pub halved-start : Halved P Q d w d 0
-  halved-start = record { within = omega arith; long = refl; first = λ l h. absurd (omega arith); second = λ l h. absurd (omega arith) }
-
-  pub halved-on : {ws : List ℕ} {k x y : ℕ} → Halved P Q d w ws k → k < w → w + w ≤ length d → Answers P k x → Answers Q k y → Halved P Q d w (set (set ws k x) (w + k) y) (k + 1)
+module _ {P Q : ℕ → Bool} {w : ℕ} where
+  pub halved-on : {ws : List ℕ} {k x y : ℕ} → Halved P Q w ws k → k < w → w + w ≤ length ws → Answers P k x → Answers Q k y → Halved P Q w (set (set ws k x) (w + k) y) (k + 1)
   halved-on {ws} {k} {x} {y} f h room p q = record {
-    within = omega arith;
-    long = length-set (set ws k x) (w + k) y ∙ length-set ws k x ∙ f.long;
     first = λ l m. subst (Answers P l) (sym (get_or-set_other (set ws k x) (w + k) l y 0 (omega arith))) (one l (top l k (omega arith)));
     second = λ l m. two l (top l k (omega arith));
   }
     where
       one : (l : ℕ) → (l ≡ k) ⊎ (l < k) → Answers P l (get_or (set ws k x) l 0)
-      one l (inl e) = subst (λ (z : ℕ). Answers P z (get_or (set ws k x) z 0)) (sym e) (subst (Answers P k) (sym (get_or-set_same ws k x 0 (let n = f.long in omega arith))) p)
+      one l (inl e) = subst (λ (z : ℕ). Answers P z (get_or (set ws k x) z 0)) (sym e) (subst (Answers P k) (sym (get_or-set_same ws k x 0 (omega arith))) p)
       one l (inr m) = subst (Answers P l) (sym (get_or-set_other ws k l x 0 (omega arith))) (f.first l m)
 
       two : (l : ℕ) → (l ≡ k) ⊎ (l < k) → Answers Q l (get_or (set (set ws k x) (w + k) y) (w + l) 0)
       two l (inl e) = subst (λ (z : ℕ). Answers Q z (get_or (set (set ws k x) (w + k) y) (w + z) 0)) (sym e)
-          (subst (Answers Q k) (sym (get_or-set_same (set ws k x) (w + k) y 0 (let n = f.long in let m = length-set ws k x in omega arith))) q)
+          (subst (Answers Q k) (sym (get_or-set_same (set ws k x) (w + k) y 0 (let m = length-set ws k x in omega arith))) q)
       two l (inr m) = subst (Answers Q l) (sym (get_or-set_other (set ws k x) (w + k) (w + l) y 0 (omega arith) ∙ get_or-set_other ws k (w + l) x 0 (omega arith))) (f.second l m)
 
-  -- the place of the second half's next word
-  pub second_at : {ws : List ℕ} {k : ℕ} → Halved P Q d w ws k → k < w → w + w ≤ length d → (x : ℕ) → w + k < length (set ws k x)
-  second_at {ws} {k} f h room x = let n = f.long in lt-length-set ws k x (omega arith)
-
-  pub halved-end : {ws : List ℕ} {k : ℕ} → Halved P Q d w ws k → w ≤ k → (t : ℕ) → t < w * 64 → (member ws t ≡ P t) × (member ws (w * 64 + t) ≡ Q t)
+  pub halved-end : {ws : List ℕ} {k : ℕ} → Halved P Q w ws k → w ≤ k → (t : ℕ) → t < w * 64 → (member ws t ≡ P t) × (member ws (w * 64 + t) ≡ Q t)
   halved-end {ws} f h t l =
-      let m = f.within in
       (answered P ws (t / 64) t t (f.first (t / 64) (omega arith)) (omega arith), answered Q ws (w + t / 64) t (w * 64 + t) (f.second (t / 64) (omega arith)) (omega arith))

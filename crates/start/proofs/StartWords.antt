@@ -10,7 +10,7 @@ use lib.Bits.{bit_and, bit_or}
 use lib.Dec.{eqb, ltb}
 use lib.ListN.{length, get_or}
 use lib.Pow.{pow-add, pow_mono}
-use borrow.Author.Tests.{lt-ltb, le-ltb, eq-eqb, ne_eqb}
+use borrow.Author.Tests.{lt-ltb, le-ltb, ne_eqb}
 use Rattle.ctl.specs.Types.{in_type}
 use Rattle.wordset.proofs.BitLaws.{shl_one}
 use Rattle.wordset.specs.Below.{all_below, count_below, one}
@@ -74,37 +74,32 @@ count-one (suc zero) = refl
 count-one (suc (suc c)) = rw (lt-ltb 1 (suc (suc c)) (omega arith), ne_eqb (suc (suc c)) 1 (omega arith)) (and-false (ltb 0 (suc (suc c))))
 
 -- word x answers whether a type passes at least one of the first i tests, and y whether it passes at least two
-pub record Counted (P : ℕ → ℕ → Bool) (n i k x y : ℕ) : Type 0 where
-  pub within : i ≤ n
+pub record Counted (P : ℕ → ℕ → Bool) (i k x y : ℕ) : Type 0 where
   pub some : Answers (λ t. ltb 0 (count_below i (λ j. P j t))) k x
   pub several : Answers (λ t. ltb 1 (count_below i (λ j. P j t))) k y
 
-module _ {P : ℕ → ℕ → Bool} {n k : ℕ} where
-  pub counted_start : Counted P n 0 k 0 0
+module _ {P : ℕ → ℕ → Bool} {k : ℕ} where
+  pub counted_start : Counted P 0 k 0 0
   unfolding count_below
-  counted_start = record { within = omega arith; some = word_none; several = word_none }
+  counted_start = record { some = word_none; several = word_none }
 
-  pub counted-on : {i x y z : ℕ} → Counted P n i k x y → i < n → Answers (P i) k z → Counted P n (i + 1) k (bit_or x z) (bit_or y (bit_and x z))
+  pub counted-on : {i x y z : ℕ} → Counted P i k x y → Answers (P i) k z → Counted P (i + 1) k (bit_or x z) (bit_or y (bit_and x z))
   unfolding count_below
-  counted-on {i} {x} {y} {z} f h p = subst (λ m. Counted P n m k (bit_or x z) (bit_or y (bit_and x z))) (sym (add-one i)) (record {
-    within = omega arith;
+  counted-on {i} {x} {y} {z} f p = subst (λ m. Counted P m k (bit_or x z) (bit_or y (bit_and x z))) (sym (add-one i)) (record {
     some = word-as (λ t. count-some (count_below i (λ j. P j t)) (P i t)) (or-answers f.some p);
     several = word-as (λ t. count-several (count_below i (λ j. P j t)) (P i t)) (or-answers f.several (and-answers f.some p));
   })
 
-  counted-end : {i x y : ℕ} → Counted P n i k x y → n ≤ i → Answers (λ t. eqb (count_below n (λ j. P j t)) 1) k (bit_and x ((2 ^ 64 - 1) - y))
-  counted-end {i} f h =
-      let g = f.within in
-      let e : i ≡ n = omega arith in
-      word-as (λ t. count-one (count_below i (λ j. P j t)) ∙ ap (λ m. eqb (count_below m (λ j. P j t)) 1) e) (minus-answers f.some f.several)
+  counted-end : {n i x y : ℕ} → Counted P i k x y → i ≡ n → Answers (λ t. eqb (count_below n (λ j. P j t)) 1) k (bit_and x ((2 ^ 64 - 1) - y))
+  counted-end {n} {i} f e = word-as (λ t. count-one (count_below i (λ j. P j t)) ∙ ap (λ m. eqb (count_below m (λ j. P j t)) 1) e) (minus-answers f.some f.several)
 
 module _ (values : List ℕ) {k : ℕ} where
   one-by : {b : Bool} {x : ℕ} → eqb (length values) 0 ≡ b → Answers (λ t. b || eqb (count_below (length values) (λ i. in_type t (get_or values i 0))) 1) k x → Answers (has_one values) k x
   unfolding has_one
   one-by e = word-as (λ t. ap (λ b. b || eqb (count_below (length values) (λ i. in_type t (get_or values i 0))) 1) (sym e))
 
-  pub one_none : length values ≡ 0 → Answers (has_one values) k 18446744073709551615
-  one_none e = one-by (eq-eqb (length values) 0 e) word-full
+  pub one_none : eqb (length values) 0 ≡ true → Answers (has_one values) k 18446744073709551615
+  one_none e = one-by e word-full
 
-  pub one-of : {i x y : ℕ} → (length values ≡ 0 → ⊥) → Counted (λ j t. in_type t (get_or values j 0)) (length values) i k x y → length values ≤ i → Answers (has_one values) k (bit_and x ((2 ^ 64 - 1) - y))
-  one-of f c h = one-by (ne_eqb (length values) 0 f) (counted-end c h)
+  pub one-of : {i x y : ℕ} → eqb (length values) 0 ≡ false → Counted (λ j t. in_type t (get_or values j 0)) i k x y → i ≡ length values → Answers (has_one values) k (bit_and x ((2 ^ 64 - 1) - y))
+  one-of f c e = one-by f (counted-end c e)

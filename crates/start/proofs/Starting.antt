@@ -86,26 +86,18 @@ module _ (w : ℕ) (base names : List ℕ) (n r : ℕ) where
   up_to i t = member base t || (member base (w * 64 + t) && (any_below i (λ j. eqb t (named_type (get_or names j 0) n r j)) && obeys_by names n r t))
 
   pub record Started (d l : List ℕ) (i : ℕ) : Type 0 where
-    pub within : i ≤ length names
-    pub long : length l ≡ length d
     pub are : l ≡ packed w (up_to i) d
 
   module _ {d : List ℕ} (room : w ≤ length d) where
     -- d is the store that the types without a name were copied to
     pub started-first : (e : List ℕ) → w ≤ length e → d ≡ packed w (member base) e → Started d d 0
     unfolding any_below
-    started-first e h q = record {
-      within = omega arith;
-      long = refl;
-      are = packed-held (member base) e d w h q ∙ packed-ext (member base) (up_to 0) d w (λ t l. sym (ap (λ c. member base t || c) (and-false (member base (w * 64 + t))) ∙ or-false (member base t)));
-    }
+    started-first e h q = record { are = packed-held (member base) e d w h q ∙ packed-ext (member base) (up_to 0) d w (λ t l. sym (ap (λ c. member base t || c) (and-false (member base (w * 64 + t))) ∙ or-false (member base t))) }
 
-    pub started-on : {l m : List ℕ} {i : ℕ} → Started d l i → i < length names → length m ≡ length l → {t : ℕ} → t ≡ named_type (get_or names i 0) n r i
+    pub started-on : {l m : List ℕ} {i : ℕ} → Started d l i → {t : ℕ} → t ≡ named_type (get_or names i 0) n r i
         → m ≡ packed w (λ u. member l u || (member base (w * 64 + u) && (eqb u t && obeys_by names n r u))) l → Started d m (i + 1)
     unfolding any_below
-    started-on {l} {m} {i} x h e {t} te q = record {
-      within = omega arith;
-      long = e ∙ x.long;
+    started-on {l} {m} {i} x {t} te q = record {
       are = packed-twice (up_to i) next d l m w room x.are (q ∙ ap (λ v. packed w (λ u. member l u || (member base (w * 64 + u) && (eqb u v && obeys_by names n r u))) l) te)
           ∙ packed-ext next (up_to (suc i)) d w (λ u k. ap (λ c. c || (member base (w * 64 + u) && (own u && obeys_by names n r u))) (held (up_to i) d l w room x.are u k)
           ∙ spread (member base u) (member base (w * 64 + u)) (any_below i (λ j. eqb u (named_type (get_or names j 0) n r j))) (own u) (obeys_by names n r u))
@@ -125,6 +117,6 @@ module _ (w : ℕ) (base names : List ℕ) (n r : ℕ) where
         spread false true true e false = and-false e
         spread false true true e true = refl
 
-    pub started-all : {l : List ℕ} {i : ℕ} → Started d l i → length names ≤ i → (e : List ℕ) → w ≤ length e → d ≡ packed w (member base) e → l ≡ packed w (starts_by w base names n r) e
+    pub started-all : {l : List ℕ} {i : ℕ} → Started d l i → i ≡ length names → (e : List ℕ) → w ≤ length e → d ≡ packed w (member base) e → l ≡ packed w (starts_by w base names n r) e
     unfolding starts_by type_of_name
-    started-all {l} {i} x h e k q = let m = x.within in let a : i ≡ length names = omega arith in packed-twice (member base) (up_to (length names)) e d l w k q (x.are ∙ ap (λ j. packed w (up_to j) d) a)
+    started-all {l} {i} x a e k q = packed-twice (member base) (up_to (length names)) e d l w k q (x.are ∙ ap (λ j. packed w (up_to j) d) a)

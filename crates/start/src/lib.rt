@@ -10,8 +10,6 @@ ghost use Rattle.start.specs.Starts.{Based, has_none, has_one, fits_name, in_bas
 
 use truth::place_word;
 
-const ALL: u64 = 0xFFFF_FFFF_FFFF_FFFF;
-
 // Answers 0 of the types below 2 ^ n, for n below 6.
 const LOW: [u64; 6] = [0x1, 0x3, 0xF, 0xFF, 0xFFFF, 0xFFFF_FFFF];
 
@@ -21,15 +19,12 @@ fn low_word(n: usize, k: usize) -> u64
     ensures { Answers (λ t. ltb t (2 ^ n)) k result }
 {
     if n < 6 {
-        if k == 0 {
-            return LOW[n];
-        }
-        return 0;
+        if k == 0 { LOW[n] } else { 0 }
+    } else if k < 1 << (n - 6) {
+        u64::MAX
+    } else {
+        0
     }
-    if k < 1 << (n - 6) {
-        return ALL;
-    }
-    0
 }
 
 // Answers k of the types that have exactly one of some places; of all types where there are none.
@@ -37,17 +32,15 @@ fn one_word(values: &[u8], k: usize) -> u64
     requires { (i : ℕ) → i < length values.now → get_or values.now i 0 ≤ 60 }
     ensures { Answers (has_one values.now) k result }
 {
-    if values.len() == 0 {
-        return ALL;
+    if values.is_empty() {
+        return u64::MAX;
     }
     let mut once: u64 = 0;
     let mut twice: u64 = 0;
-    let mut i = 0;
-    while i < values.len() {
-        let p = place_word(values[i] as usize, k);
-        twice = twice | (once & p);
-        once = once | p;
-        i += 1;
+    for &v in values {
+        let p = place_word(v as usize, k);
+        twice |= once & p;
+        once |= p;
     }
     once & !twice
 }
@@ -68,12 +61,9 @@ fn base_word(
     requires by_index_2 { (i : ℕ) → i < length values.now → get_or values.now i 0 ≤ 60 }
     ensures { Answers (in_base ms.now ln.now globals.now values.now) k result }
 {
-    let mut acc: u64 = ALL;
-    let mut i = 0;
-    while i < globals.len() {
-        let g = globals[i] as usize;
-        acc = acc & tw[g * w + k];
-        i += 1;
+    let mut acc = u64::MAX;
+    for &g in globals {
+        acc &= tw[g as usize * w + k];
     }
     low_word(ln.len(), k) & (one_word(values, k) & acc)
 }
@@ -83,11 +73,9 @@ fn free_word(names: &[u8], k: usize) -> u64
     requires { (i : ℕ) → i < length names.now → get_or names.now i 0 ≤ 60 }
     ensures { Answers (has_none names.now) k result }
 {
-    let mut acc: u64 = ALL;
-    let mut i = 0;
-    while i < names.len() {
-        acc = acc & !place_word(names[i] as usize, k);
-        i += 1;
+    let mut acc = u64::MAX;
+    for &v in names {
+        acc &= !place_word(v as usize, k);
     }
     acc
 }
@@ -110,13 +98,11 @@ pub fn base_words(
     requires named { Named names.now (length ln.now) }
     ensures { Based w (in_base ms.now ln.now globals.now values.now) names.now base.new }
 {
-    let mut k = 0;
-    while k < w {
+    for k in 0..w {
         let all = base_word(ms, ln, tw, w, globals, values, k);
         let free = free_word(names, k);
         base[k] = all & free;
         base[w + k] = all & !free;
-        k += 1;
     }
 }
 
@@ -136,10 +122,7 @@ fn fits_name(v: usize, n: usize, r: u64, i: usize, t: usize) -> bool
     requires { (v < n) × ((n ≤ 31) × (i < 2)) }
     ensures { result ≡ fits_name v n r i t }
 {
-    if (t >> v) & 1 == 1 {
-        return t == named_type(v, n, r, i);
-    }
-    true
+    (t >> v) & 1 == 0 || t == named_type(v, n, r, i)
 }
 
 // Whether a type obeys naming r.
@@ -147,12 +130,10 @@ fn obeys(names: &[u8], n: usize, r: u64, t: usize) -> bool
     requires { Named names.now n }
     ensures { result ≡ obeys_by names.now n r t }
 {
-    let mut i = 0;
-    while i < names.len() {
-        if !fits_name(names[i] as usize, n, r, i, t) {
+    for (i, &v) in names.iter().enumerate() {
+        if !fits_name(v as usize, n, r, i, t) {
             return false;
         }
-        i += 1;
     }
     true
 }
@@ -162,11 +143,8 @@ fn add_type(names: &[u8], n: usize, r: u64, w: usize, base: &[u64], t: usize, ds
     requires { Named names.now n × ((w ≤ 1024) × ((w + w ≤ length base.now) × ((w ≤ length dst.old) × (t < w * 64)))) }
     ensures { dst.new ≡ packed w (λ u. member dst.old u || (member base.now (w * 64 + u) && (eqb u t && obeys_by names.now n r u))) dst.old }
 {
-    if !wordset::contains(base, w * 64 + t) {
-        return;
-    }
-    if obeys(names, n, r, t) {
-        dst[t / 64] = dst[t / 64] | (1 << (t % 64));
+    if wordset::contains(base, w * 64 + t) && obeys(names, n, r, t) {
+        dst[t / 64] |= 1 << (t % 64);
     }
 }
 
@@ -176,10 +154,8 @@ pub fn start_words(names: &[u8], n: usize, r: u64, w: usize, base: &[u64], dst: 
     ensures { dst.new ≡ packed w (starts_by w base.now names.now n r) dst.old }
 {
     wordset::copy(dst, base, w);
-    let mut i = 0;
-    while i < names.len() {
-        let t = named_type(names[i] as usize, n, r, i);
+    for (i, &v) in names.iter().enumerate() {
+        let t = named_type(v as usize, n, r, i);
         add_type(names, n, r, w, base, t, dst);
-        i += 1;
     }
 }

@@ -83,13 +83,13 @@ pub along-yes : (a x g m : ℕ) → g ≡ tag_w x → g ≡ 6 → m ≡ mode_w x
 along-yes a x g m e f q = ap (has_mode a) q ∙ sym (ap (λ b. b && has_mode a (mode_w x)) (eq-eqb (tag_w x) 6 (sym e ∙ f)))
 
 -- a need that is none of these takes nothing away
-pub follow-off : (a x : ℕ) (b : Bool) → b ≡ ex_along a x → not b ≡ true → (d h : Bool) → d ≡ (d && imp (ex_along a x) h)
-follow-off a x true e f d h = absurd (true≢false (sym f))
+pub follow-off : (a x : ℕ) (b : Bool) → b ≡ ex_along a x → b ≡ false → (d h : Bool) → d ≡ (d && imp (ex_along a x) h)
+follow-off a x true e f d h = absurd (true≢false f)
 follow-off a x false e f d h = sym (ap (λ y. d && imp y h) (sym e) ∙ and-true d)
 
 -- one of these asks for its next
-pub follow-on : (a x : ℕ) (b : Bool) → b ≡ ex_along a x → not b ≡ false → (h : Bool) → h ≡ imp (ex_along a x) h
-follow-on a x false e f h = absurd (true≢false f)
+pub follow-on : (a x : ℕ) (b : Bool) → b ≡ ex_along a x → b ≡ true → (h : Bool) → h ≡ imp (ex_along a x) h
+follow-on a x false e f h = absurd (true≢false (sym f))
 follow-on a x true e f h = ap (λ y. imp y h) e
 
 pub ranked-member : (w : ℕ) (src copy : List ℕ) → w ≤ length src → (t : ℕ) → t < w * 64 → member (ranked w src copy) t ≡ (member src t && not (member copy t))
@@ -131,8 +131,8 @@ module _ (w : ℕ) (tw cw : List ℕ) (U : ℕ → Bool) (d : List ℕ) (x : ℕ
     pub next-held : (d' : List ℕ) → w ≤ length d → d' ≡ packed w (λ t. member d t && not (member v t && not (linked_to w cw (side w cw m) (member rest) t))) d → (t : ℕ) → t < w * 64 → member d' t ≡ (member d t && has_next w tw cw U x t)
     next-held d' h q t l = held (λ t. member d t && not (member v t && not (linked_to w cw (side w cw m) (member rest) t))) d d' w h q t l ∙ next-kept t l
 
-pub along-mode : (a x : ℕ) (b : Bool) → b ≡ ex_along a x → not b ≡ false → (tag_w x ≡ 6 → mode_w x < 16) → mode_w x < 16
-along-mode a x false e f g = absurd (true≢false f)
+pub along-mode : (a x : ℕ) (b : Bool) → b ≡ ex_along a x → b ≡ true → (tag_w x ≡ 6 → mode_w x < 16) → mode_w x < 16
+along-mode a x false e f g = absurd (true≢false (sym f))
 along-mode a x true e f g = g (eqb-true (tag_w x) 6 (and_both (eqb (tag_w x) 6) _ (sym e)).0)
 
 -- ---- the loop over the needs: those of d₀ are left that pass F for the first k
@@ -140,14 +140,14 @@ along-mode a x true e f g = g (eqb-true (tag_w x) 6 (and_both (eqb (tag_w x) 6) 
 pub record Followed (F : ℕ → ℕ → Bool) (w n : ℕ) (d₀ v₀ rest₀ d v rest : List ℕ) (k : ℕ) : Type 0 where
   pub within : k ≤ n
   pub long : length d ≡ length d₀
-  pub long-v : length v ≡ length v₀
+  pub long_v : length v ≡ length v₀
   pub long_rest : length rest ≡ length rest₀
   pub is : (t : ℕ) → t < w * 64 → member d t ≡ (member d₀ t && all_below k (λ j. F j t))
 
 module _ {F : ℕ → ℕ → Bool} {w n : ℕ} {d₀ v₀ rest₀ : List ℕ} where
   pub all_start : Followed F w n d₀ v₀ rest₀ d₀ v₀ rest₀ 0
   unfolding all_below
-  all_start = record { within = omega arith; long = refl; long-v = refl; long_rest = refl; is = λ t l. sym (and-true (member d₀ t)) }
+  all_start = record { within = omega arith; long = refl; long_v = refl; long_rest = refl; is = λ t l. sym (and-true (member d₀ t)) }
 
   module _ {d v rest : List ℕ} {k : ℕ} (s : Followed F w n d₀ v₀ rest₀ d v rest k) where
     pub all-on : (d' v' rest' : List ℕ) → k < n → length d' ≡ length d → length v' ≡ length v → length rest' ≡ length rest → ((t : ℕ) → t < w * 64 → member d' t ≡ (member d t && F k t)) → Followed F w n d₀ v₀ rest₀ d' v' rest' (k + 1)
@@ -155,7 +155,7 @@ module _ {F : ℕ → ℕ → Bool} {w n : ℕ} {d₀ v₀ rest₀ : List ℕ} w
     all-on d' v' rest' h e g i f = record {
       within = omega arith;
       long = e ∙ s.long;
-      long-v = g ∙ s.long-v;
+      long_v = g ∙ s.long_v;
       long_rest = i ∙ s.long_rest;
       is = λ t l. f t l ∙ ap (λ z. z && F k t) (s.is t l) ∙ and_assoc (member d₀ t) (all_below k (λ j. F j t)) (F k t) ∙ ap (λ m. member d₀ t && all_below m (λ j. F j t)) (sym (add-one k));
     }

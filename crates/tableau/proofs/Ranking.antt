@@ -228,7 +228,7 @@ none_left w tw dst copy {j} q e t l m h = out (member dst t) (member copy t) (ha
 
 pub record Searching (w : ℕ) (tw cw ns : List ℕ) (x : ℕ) (src copy₀ todo₀ v₀ rest₀ copy todo v rest : List ℕ) : Type 0 where
   pub long : length copy ≡ length copy₀
-  pub long-todo : length todo ≡ length todo₀
-  pub long-v : length v ≡ length v₀
+  pub long_todo : length todo ≡ length todo₀
+  pub long_v : length v ≡ length v₀
   pub long_rest : length rest ≡ length rest₀
   pub is : (ms ln : List ℕ) (i : ℕ) → Ready ms ln w tw cw ns → Until ms x i → Ranking ms ln w i src (ranked w src copy)

@@ -189,9 +189,9 @@ lasts ms ln w tw cw ns src j t = member src t && all_below j (λ k. stays ms ln 
 pub record Rounded (w : ℕ) (tw cw ns src d₀ copy₀ todo₀ v₀ rest₀ dst copy todo v rest : List ℕ) (j : ℕ) : Type 0 where
   pub within : j ≤ length ns
   pub long : length dst ≡ length d₀
-  pub long-copy : length copy ≡ length copy₀
-  pub long-todo : length todo ≡ length todo₀
-  pub long-v : length v ≡ length v₀
+  pub long_copy : length copy ≡ length copy₀
+  pub long_todo : length todo ≡ length todo₀
+  pub long_v : length v ≡ length v₀
   pub long_rest : length rest ≡ length rest₀
   pub is : (ms ln : List ℕ) → Ready ms ln w tw cw ns → dst ≡ packed w (lasts ms ln w tw cw ns src j) d₀
 
@@ -201,9 +201,9 @@ module _ {w : ℕ} {tw cw ns src : List ℕ} where
   round-start d {d₀} h e = record {
     within = omega arith;
     long = refl;
-    long-copy = refl;
-    long-todo = refl;
-    long-v = refl;
+    long_copy = refl;
+    long_todo = refl;
+    long_v = refl;
     long_rest = refl;
     is = λ ms ln r. packed-held (member src) d d₀ w h e ∙ packed-ext (member src) (lasts ms ln w tw cw ns src 0) d₀ w (λ t l. sym (and-true (member src t)));
   }
@@ -215,9 +215,9 @@ module _ {w : ℕ} {tw cw ns src : List ℕ} where
     round-on dst' copy' todo' v' rest' h ld lc lt lv lr q = record {
       within = omega arith;
       long = ld ∙ s.long;
-      long-copy = lc ∙ s.long-copy;
-      long-todo = lt ∙ s.long-todo;
-      long-v = lv ∙ s.long-v;
+      long_copy = lc ∙ s.long_copy;
+      long_todo = lt ∙ s.long_todo;
+      long_v = lv ∙ s.long_v;
       long_rest = lr ∙ s.long_rest;
       is = λ ms ln r.
           (let before : ℕ → Bool = lasts ms ln w tw cw ns src j in

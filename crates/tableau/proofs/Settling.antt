@@ -166,9 +166,9 @@ module _ {ms ln : List ℕ} {w : ℕ} {start d e x y : List ℕ} {n : ℕ} (b : 
 -- before round n, for whichever table the words are of
 pub record Settles (w : ℕ) (tw cw ns first₀ second₀ copy₀ todo₀ v₀ rest₀ first second copy todo v rest : List ℕ) (n : ℕ) : Type 0 where
   pub long : length first ≡ length first₀
-  pub long-second : length second ≡ length second₀
-  pub long-copy : length copy ≡ length copy₀
-  pub long-todo : length todo ≡ length todo₀
-  pub long-v : length v ≡ length v₀
+  pub long_second : length second ≡ length second₀
+  pub long_copy : length copy ≡ length copy₀
+  pub long_todo : length todo ≡ length todo₀
+  pub long_v : length v ≡ length v₀
   pub long_rest : length rest ≡ length rest₀
   pub is : (ms ln : List ℕ) → Ready ms ln w tw cw ns → Before ms ln w (list_of w first₀) first₀ second₀ first second n

@@ -1,3 +1,4 @@
 pub mod Families
 pub mod Tabled
 pub mod Matches
+pub mod Sheets

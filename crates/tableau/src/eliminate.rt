@@ -10,6 +10,7 @@ ghost use Rattle.needs.specs.Needs.{Among};
 ghost use Rattle.tableau.specs.Families.{Made, Ready, Round, Rounds, Survivors, Within, stays};
 
 use crate::search::search;
+use crate::words::Words;
 use image::blocks::pick;
 use image::confine_linked;
 use members::parts::{left, tag};
@@ -17,10 +18,7 @@ use needs::parts::{mode, whole};
 
 // Those of dst that lack what need x asks for against src are eliminated.
 fn eliminate_need(
-    ns: &[u64],
-    tw: &[u64],
-    cw: &[u64],
-    w: usize,
+    words: &Words<'_>,
     x: u64,
     src: &[u64],
     dst: &mut [u64],
@@ -29,31 +27,28 @@ fn eliminate_need(
     v: &mut [u64],
     rest: &mut [u64],
 )
-    requires among { Among ns.now x × Made w tw.now cw.now ns.now }
-    requires w_in_bounds { (w ≤ length src.now) × (w ≤ length dst.old) × (w ≤ length copy.old) × (w ≤ length todo.old) × (w ≤ length v.old) × (w ≤ length rest.old) }
-    requires within { Within w dst.old src.now }
-    ensures { (ms ln : List ℕ) → Ready ms ln w tw.now cw.now ns.now → dst.new ≡ packed w (λ t. member dst.old t && stays ms ln w tw.now cw.now src.now x t) dst.old }
+    requires among { Among words.now.ns.now x × Made words.now.w words.now.tw.now words.now.cw.now words.now.ns.now }
+    requires w_in_bounds { (words.now.w ≤ length src.now) × (words.now.w ≤ length dst.old) × (words.now.w ≤ length copy.old) × (words.now.w ≤ length todo.old) × (words.now.w ≤ length v.old) × (words.now.w ≤ length rest.old) }
+    requires within { Within words.now.w dst.old src.now }
+    ensures { (ms ln : List ℕ) → Ready ms ln words.now.w words.now.tw.now words.now.cw.now words.now.ns.now → dst.new ≡ packed words.now.w (λ t. member dst.old t && stays ms ln words.now.w words.now.tw.now words.now.cw.now src.now x t) dst.old }
 {
     if tag(x) == 6 {
-        if pick(v, dst, tw, w, whole(x)) {
-            pick(rest, src, tw, w, left(x));
-            confine_linked(dst, v, rest, cw, w, mode(x));
+        if pick(v, dst, words.tw, words.w, whole(x)) {
+            pick(rest, src, words.tw, words.w, left(x));
+            confine_linked(dst, v, rest, words.cw, words.w, mode(x));
         }
         return;
     }
-    if search(ns, tw, cw, w, x, src, dst, copy, todo, v, rest) {
+    if search(words, x, src, dst, copy, todo, v, rest) {
         return;
     }
-    pick(v, copy, tw, w, whole(x));
-    wordset::subtract(dst, v, w);
+    pick(v, copy, words.tw, words.w, whole(x));
+    wordset::subtract(dst, v, words.w);
 }
 
 // One round, from src into dst: whether it eliminated nothing.
 pub fn round(
-    ns: &[u64],
-    tw: &[u64],
-    cw: &[u64],
-    w: usize,
+    words: &Words<'_>,
     src: &[u64],
     dst: &mut [u64],
     copy: &mut [u64],
@@ -61,27 +56,22 @@ pub fn round(
     v: &mut [u64],
     rest: &mut [u64],
 ) -> bool
-    requires made { Made w tw.now cw.now ns.now }
-    requires w_in_bounds { (w ≤ length src.now) × (w ≤ length dst.old) × (w ≤ length copy.old) × (w ≤ length todo.old) × (w ≤ length v.old) × (w ≤ length rest.old) }
-    ensures by_index { (ms ln : List ℕ) → Ready ms ln w tw.now cw.now ns.now → dst.new ≡ packed w (λ t. elem t (Round ms ln (list_of w src.now))) dst.old }
-    ensures value { result ≡ all_below (w * 64) (λ t. beq (member src.now t) (member dst.new t)) }
+    requires made { Made words.now.w words.now.tw.now words.now.cw.now words.now.ns.now }
+    requires w_in_bounds { (words.now.w ≤ length src.now) × (words.now.w ≤ length dst.old) × (words.now.w ≤ length copy.old) × (words.now.w ≤ length todo.old) × (words.now.w ≤ length v.old) × (words.now.w ≤ length rest.old) }
+    ensures by_index { (ms ln : List ℕ) → Ready ms ln words.now.w words.now.tw.now words.now.cw.now words.now.ns.now → dst.new ≡ packed words.now.w (λ t. elem t (Round ms ln (list_of words.now.w src.now))) dst.old }
+    ensures value { result ≡ all_below (words.now.w * 64) (λ t. beq (member src.now t) (member dst.new t)) }
 {
-    wordset::copy(dst, src, w);
-    let mut j = 0;
-    while j < ns.len() {
-        eliminate_need(ns, tw, cw, w, ns[j], src, dst, copy, todo, v, rest);
-        j += 1;
+    wordset::copy(dst, src, words.w);
+    for &x in words.ns {
+        eliminate_need(words, x, src, dst, copy, todo, v, rest);
     }
-    wordset::equal(src, dst, w)
+    wordset::equal(src, dst, words.w)
 }
 
 // Rounds from the first store into the second and back, until one eliminates nothing: how many eliminated something. Both stores then
 // hold the survivors.
 pub fn settle(
-    ns: &[u64],
-    tw: &[u64],
-    cw: &[u64],
-    w: usize,
+    words: &Words<'_>,
     first: &mut [u64],
     second: &mut [u64],
     copy: &mut [u64],
@@ -89,19 +79,19 @@ pub fn settle(
     v: &mut [u64],
     rest: &mut [u64],
 ) -> usize
-    requires made { Made w tw.now cw.now ns.now }
-    requires w_in_bounds { (w ≤ length first.old) × (w ≤ length second.old) × (w ≤ length copy.old) × (w ≤ length todo.old) × (w ≤ length v.old) × (w ≤ length rest.old) }
-    ensures by_index { (ms ln : List ℕ) → Ready ms ln w tw.now cw.now ns.now → result ≡ Rounds ms ln (list_of w first.old) }
-    ensures by_index_2 { (ms ln : List ℕ) → Ready ms ln w tw.now cw.now ns.now → first.new ≡ packed w (λ t. elem t (Survivors ms ln (list_of w first.old))) first.old }
-    ensures by_index_3 { (ms ln : List ℕ) → Ready ms ln w tw.now cw.now ns.now → second.new ≡ packed w (λ t. elem t (Survivors ms ln (list_of w first.old))) second.old }
+    requires made { Made words.now.w words.now.tw.now words.now.cw.now words.now.ns.now }
+    requires w_in_bounds { (words.now.w ≤ length first.old) × (words.now.w ≤ length second.old) × (words.now.w ≤ length copy.old) × (words.now.w ≤ length todo.old) × (words.now.w ≤ length v.old) × (words.now.w ≤ length rest.old) }
+    ensures by_index { (ms ln : List ℕ) → Ready ms ln words.now.w words.now.tw.now words.now.cw.now words.now.ns.now → result ≡ Rounds ms ln (list_of words.now.w first.old) }
+    ensures by_index_2 { (ms ln : List ℕ) → Ready ms ln words.now.w words.now.tw.now words.now.cw.now words.now.ns.now → first.new ≡ packed words.now.w (λ t. elem t (Survivors ms ln (list_of words.now.w first.old))) first.old }
+    ensures by_index_3 { (ms ln : List ℕ) → Ready ms ln words.now.w words.now.tw.now words.now.cw.now words.now.ns.now → second.new ≡ packed words.now.w (λ t. elem t (Survivors ms ln (list_of words.now.w first.old))) second.old }
 {
     let mut n = 0;
     loop {
-        if round(ns, tw, cw, w, first, second, copy, todo, v, rest) {
+        if round(words, first, second, copy, todo, v, rest) {
             return n;
         }
         n += 1;
-        if round(ns, tw, cw, w, second, first, copy, todo, v, rest) {
+        if round(words, second, first, copy, todo, v, rest) {
             return n;
         }
         n += 1;

@@ -7,3 +7,4 @@
 pub mod eliminate;
 mod search;
 pub mod table;
+pub mod words;

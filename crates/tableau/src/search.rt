@@ -10,6 +10,7 @@ ghost use Rattle.needs.specs.NeedWords.{mode_w, whole_w};
 ghost use Rattle.needs.specs.Needs.{Among};
 ghost use Rattle.tableau.specs.Families.{Finds, Made, Ready, Until, Within, ex_along, has_next, has_nexts, leaving, ranked};
 
+use crate::words::Words;
 use image::blocks::{meet, omit, pick, pick_less, release};
 use image::{confine_linked, drop_linked};
 use members::parts::{arg, has_mode, left, right, tag};
@@ -29,9 +30,7 @@ fn along(x: u64, a: u64) -> bool
 // Those of dst stay in which need x, if it is an EX over one of the modes a, has its next among the ranked. The first w words of v and of
 // rest are overwritten.
 fn follow(
-    tw: &[u64],
-    cw: &[u64],
-    w: usize,
+    words: &Words<'_>,
     x: u64,
     a: u64,
     src: &[u64],
@@ -40,25 +39,22 @@ fn follow(
     v: &mut [u64],
     rest: &mut [u64],
 )
-    requires by_index { (ns : List ℕ) × (Among ns x × Made w tw.now cw.now ns) }
-    requires w_in_bounds { (w ≤ length src.now) × (w ≤ length copy.now) × (w ≤ length dst.old) × (w ≤ length v.old) × (w ≤ length rest.old) }
-    ensures { (t : ℕ) → t < w * 64 → member dst.new t ≡ (member dst.old t && imp (ex_along a x) (has_next w tw.now cw.now (member (ranked w src.now copy.now)) x t)) }
+    requires among { Among words.now.ns.now x × Made words.now.w words.now.tw.now words.now.cw.now words.now.ns.now }
+    requires w_in_bounds { (words.now.w ≤ length src.now) × (words.now.w ≤ length copy.now) × (words.now.w ≤ length dst.old) × (words.now.w ≤ length v.old) × (words.now.w ≤ length rest.old) }
+    ensures { (t : ℕ) → t < words.now.w * 64 → member dst.new t ≡ (member dst.old t && imp (ex_along a x) (has_next words.now.w words.now.tw.now words.now.cw.now (member (ranked words.now.w src.now copy.now)) x t)) }
 {
     if !along(x, a) {
         return;
     }
-    if pick(v, dst, tw, w, whole(x)) {
-        pick_less(rest, src, copy, tw, w, left(x));
-        confine_linked(dst, v, rest, cw, w, mode(x));
+    if pick(v, dst, words.tw, words.w, whole(x)) {
+        pick_less(rest, src, copy, words.tw, words.w, left(x));
+        confine_linked(dst, v, rest, words.cw, words.w, mode(x));
     }
 }
 
 // The same for every need, so that every EX over one of the modes a has its next among the ranked.
 fn follow_all(
-    ns: &[u64],
-    tw: &[u64],
-    cw: &[u64],
-    w: usize,
+    words: &Words<'_>,
     a: u64,
     src: &[u64],
     copy: &[u64],
@@ -66,14 +62,12 @@ fn follow_all(
     v: &mut [u64],
     rest: &mut [u64],
 )
-    requires made { Made w tw.now cw.now ns.now }
-    requires w_in_bounds { (w ≤ length src.now) × (w ≤ length copy.now) × (w ≤ length dst.old) × (w ≤ length v.old) × (w ≤ length rest.old) }
-    ensures { (t : ℕ) → t < w * 64 → member dst.new t ≡ (member dst.old t && has_nexts w tw.now cw.now ns.now (member (ranked w src.now copy.now)) a t) }
+    requires made { Made words.now.w words.now.tw.now words.now.cw.now words.now.ns.now }
+    requires w_in_bounds { (words.now.w ≤ length src.now) × (words.now.w ≤ length copy.now) × (words.now.w ≤ length dst.old) × (words.now.w ≤ length v.old) × (words.now.w ≤ length rest.old) }
+    ensures { (t : ℕ) → t < words.now.w * 64 → member dst.new t ≡ (member dst.old t && has_nexts words.now.w words.now.tw.now words.now.cw.now words.now.ns.now (member (ranked words.now.w src.now copy.now)) a t) }
 {
-    let mut j = 0;
-    while j < ns.len() {
-        follow(tw, cw, w, ns[j], a, src, copy, dst, v, rest);
-        j += 1;
+    for &x in words.ns {
+        follow(words, x, a, src, copy, dst, v, rest);
     }
 }
 
@@ -81,10 +75,7 @@ fn follow_all(
 // Whether any did. The first w words of v and of rest are overwritten, for an AU those of `todo` too: each of its needs is asked of what the
 // others left.
 fn rank_next(
-    ns: &[u64],
-    tw: &[u64],
-    cw: &[u64],
-    w: usize,
+    words: &Words<'_>,
     x: u64,
     src: &[u64],
     copy: &mut [u64],
@@ -92,34 +83,31 @@ fn rank_next(
     v: &mut [u64],
     rest: &mut [u64],
 ) -> bool
-    requires among { Among ns.now x × Made w tw.now cw.now ns.now }
-    requires w_in_bounds { (w ≤ length src.now) × (w ≤ length copy.old) × (w ≤ length todo.old) × (w ≤ length v.old) × (w ≤ length rest.old) }
-    ensures by_index { (t : ℕ) → t < w * 64 → member copy.new t ≡ (member copy.old t && not (leaving w tw.now cw.now ns.now src.now copy.old x t)) }
-    ensures value { result ≡ any_below (w * 64) (λ t. member copy.old t && (leaving w tw.now cw.now ns.now src.now copy.old x t)) }
+    requires among { Among words.now.ns.now x × Made words.now.w words.now.tw.now words.now.cw.now words.now.ns.now }
+    requires w_in_bounds { (words.now.w ≤ length src.now) × (words.now.w ≤ length copy.old) × (words.now.w ≤ length todo.old) × (words.now.w ≤ length v.old) × (words.now.w ≤ length rest.old) }
+    ensures by_index { (t : ℕ) → t < words.now.w * 64 → member copy.new t ≡ (member copy.old t && not (leaving words.now.w words.now.tw.now words.now.cw.now words.now.ns.now src.now copy.old x t)) }
+    ensures value { result ≡ any_below (words.now.w * 64) (λ t. member copy.old t && (leaving words.now.w words.now.tw.now words.now.cw.now words.now.ns.now src.now copy.old x t)) }
 {
     let p = left(x);
     if tag(x) == 8 {
-        if !pick(v, copy, tw, w, p) {
+        if !pick(v, copy, words.tw, words.w, p) {
             return false;
         }
-        drop_linked(v, rest, src, copy, cw, w, arg(x));
-        return release(copy, tw, w, p, v);
+        drop_linked(v, rest, src, copy, words.cw, words.w, arg(x));
+        return release(copy, words.tw, words.w, p, v);
     }
-    if !pick(todo, copy, tw, w, p) {
+    if !pick(todo, copy, words.tw, words.w, p) {
         return false;
     }
-    follow_all(ns, tw, cw, w, arg(x), src, copy, todo, v, rest);
-    wordset::subtract(copy, todo, w)
+    follow_all(words, arg(x), src, copy, todo, v, rest);
+    wordset::subtract(copy, todo, words.w)
 }
 
 // The copy, whatever it held, becomes the family src less the types with the right operand of need x, an EU or an AU; then it loses rank after
 // rank, until none of dst is left in it that has the need (true), or a rank has no types (false). The first w words of `todo`, v and rest are
 // overwritten.
 pub fn search(
-    ns: &[u64],
-    tw: &[u64],
-    cw: &[u64],
-    w: usize,
+    words: &Words<'_>,
     x: u64,
     src: &[u64],
     dst: &[u64],
@@ -128,19 +116,19 @@ pub fn search(
     v: &mut [u64],
     rest: &mut [u64],
 ) -> bool
-    requires among { Among ns.now x × ((tag_w x ≡ 6 → ⊥) × Made w tw.now cw.now ns.now) }
-    requires w_in_bounds { (w ≤ length src.now) × (w ≤ length dst.now) × (w ≤ length copy.old) × (w ≤ length todo.old) × (w ≤ length v.old) × (w ≤ length rest.old) }
-    requires within { Within w dst.now src.now }
-    ensures by_index { (ms ln : List ℕ) (i : ℕ) → Ready ms ln w tw.now cw.now ns.now → Until ms x i → Finds ms ln w tw.now src.now dst.now i copy.new }
-    ensures t_after { result ≡ true → (t : ℕ) → t < w * 64 → member dst.now t ≡ true → has w tw.now (whole_w x) t ≡ true → member copy.new t ≡ false }
+    requires among { Among words.now.ns.now x × ((tag_w x ≡ 6 → ⊥) × Made words.now.w words.now.tw.now words.now.cw.now words.now.ns.now) }
+    requires w_in_bounds { (words.now.w ≤ length src.now) × (words.now.w ≤ length dst.now) × (words.now.w ≤ length copy.old) × (words.now.w ≤ length todo.old) × (words.now.w ≤ length v.old) × (words.now.w ≤ length rest.old) }
+    requires within { Within words.now.w dst.now src.now }
+    ensures by_index { (ms ln : List ℕ) (i : ℕ) → Ready ms ln words.now.w words.now.tw.now words.now.cw.now words.now.ns.now → Until ms x i → Finds ms ln words.now.w words.now.tw.now src.now dst.now i copy.new }
+    ensures t_after { result ≡ true → (t : ℕ) → t < words.now.w * 64 → member dst.now t ≡ true → has words.now.w words.now.tw.now (whole_w x) t ≡ true → member copy.new t ≡ false }
 {
     let i = whole(x);
-    omit(copy, src, tw, w, right(x));
+    omit(copy, src, words.tw, words.w, right(x));
     loop {
-        if !meet(dst, copy, tw, w, i) {
+        if !meet(dst, copy, words.tw, words.w, i) {
             return true;
         }
-        if !rank_next(ns, tw, cw, w, x, src, copy, todo, v, rest) {
+        if !rank_next(words, x, src, copy, todo, v, rest) {
             return false;
         }
     }

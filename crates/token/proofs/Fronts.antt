@@ -10,8 +10,7 @@ use lib.Seq.{drop-cons}
 use borrow.Author.Tests.{lt-ltb, le-ltb, le-leb, lt-leb}
 use Rattle.spelling.specs.Spelling.{lower, run, word}
 use Rattle.token.specs.declared.Modal.{Modal}
-use Rattle.token.specs.declared.Pair.{Pair}
-use Rattle.token.specs.declared.Pair.TheVariants.{Is, No}
+use Rattle.std.specs.Prelude.{Option, Some, None}
 use Rattle.token.specs.declared.Tok.{Tok}
 use Rattle.token.specs.declared.Tok.TheVariants.{Letter, Capital, Operator, Other}
 use Rattle.token.specs.declared.Token.{Token}
@@ -47,20 +46,20 @@ module _ (s : List ℕ) (i a e b : ℕ) (first : a ≡ i + 1) (is : e ≡ a + ru
   head-word x w h p q = rw (lt-ltb (run (drop (i + 1) s)) 8 (omega (arith, rest)), ← ends, rest, p, q, first) refl
 
 -- ---- a capital outside braces
-module _ (b i : ℕ) (r : List ℕ) (p : Pair) (is : p ≡ pair_on b r) where
-  pub alone-pair : (m : Modal) → p ≡ Is m → ◌≡◌ {A = Token} (record { tok = Operator m; next = i + 2 }) (placed i (alone_front b r))
+module _ (b i : ℕ) (r : List ℕ) (p : Option Modal) (is : p ≡ pair_on b r) where
+  pub alone-pair : (m : Modal) → p ≡ Some m → ◌≡◌ {A = Token} (record { tok = Operator m; next = i + 2 }) (placed i (alone_front b r))
   unfolding alone_front
   alone-pair m e = rw (← is, e) refl
 
-  pub alone-one : (x : ℕ) → p ≡ No → x ≡ b → ◌≡◌ {A = Token} (record { tok = Capital (x + 32); next = i + 1 }) (placed i (alone_front b r))
+  pub alone-one : (x : ℕ) → p ≡ None → x ≡ b → ◌≡◌ {A = Token} (record { tok = Capital (x + 32); next = i + 1 }) (placed i (alone_front b r))
   unfolding alone_front
   alone-one x e q = rw (← is, e, q) refl
 
 module _ (s : List ℕ) (i : ℕ) where
-  pub pair_inside : {p : Pair} → i + 1 < length s → p ≡ pair_of (get_or s i 0) (get_or s (i + 1) 0) → p ≡ pair_on (get_or s i 0) (drop (i + 1) s)
+  pub pair_inside : {p : Option Modal} → i + 1 < length s → p ≡ pair_of (get_or s i 0) (get_or s (i + 1) 0) → p ≡ pair_on (get_or s i 0) (drop (i + 1) s)
   pair_inside h e = rw (drop-cons s (i + 1) 0 h) e
 
-  pub pair-outside : length s ≤ i + 1 → No ≡ pair_on (get_or s i 0) (drop (i + 1) s)
+  pub pair-outside : length s ≤ i + 1 → None ≡ pair_on (get_or s i 0) (drop (i + 1) s)
   pair-outside h = rw (drop_of_length-le s h) refl
 
   -- ---- a run or a sign

@@ -1,7 +1,7 @@
 -- All tokens of a line. Assumes nothing: these are definitions.
 use Rattle.std.specs.Prelude.{Bool, true, false, List, [], ◌∷◌, ℕ, suc, length, drop}
 use Rattle.token.specs.declared.Tok.{Tok}
-use Rattle.token.specs.declared.Tok.TheVariants.{End, Zero, One, Letter, Capital, Operator, Infix, Not, Open, Close, OpenBrace, CloseBrace, Comma, Other}
+use Rattle.token.specs.declared.Tok.TheVariants.{OpenBrace, CloseBrace}
 use Rattle.token.specs.declared.Token.{Token}
 use Rattle.token.specs.Token.{token_at, inner_at, on_end}
 
@@ -9,18 +9,7 @@ use Rattle.token.specs.Token.{token_at, inner_at, on_end}
 abbrev pub within : Bool → Tok → Bool
 within i OpenBrace = true
 within i CloseBrace = false
-within i End = i
-within i Zero = i
-within i One = i
-within i (Letter k) = i
-within i (Capital k) = i
-within i (Operator m) = i
-within i (Infix l) = i
-within i Not = i
-within i Open = i
-within i Close = i
-within i Comma = i
-within i Other = i
+within i _ = i
 
 -- the token at a position, in braces or outside
 abbrev pub read_at : Bool → List ℕ → ℕ → Token

@@ -10,3 +10,4 @@ pub mod Sifting
 pub mod Joining
 pub mod Adding
 pub mod MemberBlocks
+pub mod Positions

@@ -14,7 +14,7 @@ use Rattle.truth.specs.Truths.{Stepped, nexts, place_of, plain, true_at}
 use Rattle.truth.proofs.Redoing.{redone-as, redone-below, redone-then}
 use Rattle.truth.proofs.TruthLaws.{truth-0, truth-1, truth-10, truth-2, truth-3, truth-4, truth-5, truth-6, truth-7, truth-9}
 
-pub operands-before : {ms : List ℕ} → Table ms → {i : ℕ} → i < length ms → 4 ≤ tag_at ms i → {p q : ℕ} → p ≡ left_at ms i → q ≡ right_at ms i → (p < i) × (q < i)
+operands-before : {ms : List ℕ} → Table ms → {i : ℕ} → i < length ms → 4 ≤ tag_at ms i → {p q : ℕ} → p ≡ left_at ms i → q ≡ right_at ms i → (p < i) × (q < i)
 operands-before t h g ep eq = let o = t.operands _ h g in let x = o.0 in let y = o.1 in (omega arith, omega arith)
 
 module _ {ms ln : List ℕ} (t : Table ms) (l : Leans ms ln) {w i : ℕ} (h : i < length ms) {d ws : List ℕ} where

@@ -6,7 +6,7 @@ use Prim.Native.Nat.{ℕ, suc, ◌*◌, ◌^◌, ◌≤◌, ◌<◌}
 use native.Mathlib.Omega.{arith}
 use lib.Dec.{T, eqb, eqb→eq}
 use lib.ListN.{length, get_or}
-use borrow.Author.Tests.{eq-eqb, ne_eqb, eqb-true}
+use borrow.Author.Tests.{eq-eqb, eqb-true}
 use Rattle.ctl.proofs.BoolLaws.{T_true, and_0, and-1, both_ways}
 use Rattle.ctl.proofs.FormulaLaws.{form_eq-out, form_eq-refl}
 use Rattle.ctl.specs.Equality.{form_eq, tag}
@@ -34,18 +34,6 @@ unfolding modal
 modal-out x g a b m =
     let u = and-1 (eqb (tag_w x) g) (eqb (arg_w x) a && eqb (left_w x) b) m in
     (eqb→eq _ _ (and_0 (eqb (tag_w x) g) _ m), eqb→eq _ _ (and_0 (eqb (arg_w x) a) _ u), eqb→eq _ _ (and-1 (eqb (arg_w x) a) _ u))
-
-pub modal-no-tag : (x g a b : ℕ) → (tag_w x ≡ g → ⊥) → false ≡ modal x g a b
-unfolding modal
-modal-no-tag x g a b f = sym (ap (λ (s : Bool). s && (eqb (arg_w x) a && eqb (left_w x) b)) (ne_eqb (tag_w x) g f))
-
-pub modal-no-arg : (x g a b : ℕ) → tag_w x ≡ g → (arg_w x ≡ a → ⊥) → false ≡ modal x g a b
-unfolding modal
-modal-no-arg x g a b e f = sym (ap₂ (λ (s v : Bool). s && (v && eqb (left_w x) b)) (eq-eqb (tag_w x) g e) (ne_eqb (arg_w x) a f))
-
-pub modal-left : (x g a b : ℕ) → tag_w x ≡ g → arg_w x ≡ a → eqb (left_w x) b ≡ modal x g a b
-unfolding modal
-modal-left x g a b e f = sym (ap₂ (λ (s v : Bool). s && (v && eqb (left_w x) b)) (eq-eqb (tag_w x) g e) (eq-eqb (arg_w x) a f))
 
 -- ---- EX and AX: n is true for AX
 

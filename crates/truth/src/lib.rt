@@ -31,25 +31,19 @@ pub fn place_word(place: usize, idx: usize) -> u64
     ensures { Answers (λ t. in_type t place) idx result }
 {
     if place < 6 {
-        return PLACES[place];
+        PLACES[place]
+    } else if (idx >> (place - 6)) & 1 == 1 {
+        u64::MAX
+    } else {
+        0
     }
-    if (idx >> (place - 6)) & 1 == 1 {
-        return 0xFFFF_FFFF_FFFF_FFFF;
-    }
-    0
 }
 
 // Whether word x is of tag g, with number a and left operand b.
 fn is_modal(x: u64, g: u64, a: u64, b: usize) -> bool
     ensures { result ≡ modal x g a b }
 {
-    if tag(x) != g {
-        return false;
-    }
-    if arg(x) != a {
-        return false;
-    }
-    left(x) == b
+    tag(x) == g && arg(x) == a && left(x) == b
 }
 
 // The first lean place with such a member, or the lean's length.
@@ -57,38 +51,23 @@ pub fn find_place(ms: &[u64], ln: &[u8], g: u64, a: u64, b: usize) -> usize
     requires { Leans ms.now ln.now }
     ensures { result ≡ place_of ms.now ln.now g a b }
 {
-    let mut k = 0;
-    while k < ln.len() {
-        if is_modal(ms[ln[k] as usize], g, a, b) {
-            return k;
-        }
-        k += 1;
-    }
-    k
+    ln.iter()
+        .position(|&i| is_modal(ms[i as usize], g, a, b))
+        .unwrap_or(ln.len())
 }
 
 // The first member of tag g, or how many members there are.
 fn find_plain(ms: &[u64], g: u64) -> usize
     ensures { result ≡ plain ms.now g }
 {
-    let mut i = 0;
-    while i < ms.len() {
-        if tag(ms[i]) == g {
-            return i;
-        }
-        i += 1;
-    }
-    i
+    ms.iter().position(|&x| tag(x) == g).unwrap_or(ms.len())
 }
 
 // The tag of EX, or of AX where every is true.
 fn next_tag(every: bool) -> u64
     ensures { result ≡ next_tag every }
 {
-    if every {
-        return 7;
-    }
-    6
+    if every { 7 } else { 6 }
 }
 
 // EX over one mode of member i with the body b joins block i; where every is true, only AX over each of them stays in it.
@@ -100,9 +79,9 @@ fn add_modes(ms: &[u64], ln: &[u8], tw: &mut [u64], w: usize, i: usize, b: usize
     let g = next_tag(every);
     let mut rest = arg(ms[i]);
     while rest != 0 {
-        let m = u64::trailing_zeros(rest) as usize;
+        let m = rest.trailing_zeros() as usize;
         add_place(tw, w, i, find_place(ms, ln, g, 1 << m, b), every);
-        rest = rest & (rest - 1);
+        rest &= rest - 1;
     }
 }
 
@@ -126,14 +105,12 @@ fn leaf_block(ms: &[u64], ln: &[u8], tw: &mut [u64], w: usize, i: usize)
     let x = ms[i];
     let g = tag(x);
     fill_block(tw, w, i, g == 0);
-    if g < 2 {
-        return;
+    if g >= 2 {
+        add_place(tw, w, i, find_place(ms, ln, 2, arg(x), 0), false);
     }
-    add_place(tw, w, i, find_place(ms, ln, 2, arg(x), 0), false);
-    if g == 2 {
-        return;
+    if g == 3 {
+        turn_block(tw, w, i);
     }
-    turn_block(tw, w, i);
 }
 
 // Block i becomes what member i, an until or a release, says of the next types: whether it is an until.
@@ -143,23 +120,26 @@ fn step_block(ms: &[u64], ln: &[u8], tw: &mut [u64], w: usize, i: usize) -> bool
     requires i_in_bounds { (i < length ms.now) × (i * w + w ≤ length tw.old) × (8 ≤ tag_at ms.now i) }
     ensures { Stepped ms.now ln.now w i result tw.old tw.new }
 {
-    let g = tag(ms[i]);
-    if g == 8 {
-        next_block(ms, ln, tw, w, i, i, false);
-        return true;
+    match tag(ms[i]) {
+        8 => {
+            next_block(ms, ln, tw, w, i, i, false);
+            true
+        }
+        9 => {
+            next_block(ms, ln, tw, w, i, find_plain(ms, 0), false);
+            add_modes(ms, ln, tw, w, i, i, true);
+            true
+        }
+        11 => {
+            next_block(ms, ln, tw, w, i, i, true);
+            false
+        }
+        _ => {
+            next_block(ms, ln, tw, w, i, find_plain(ms, 1), true);
+            add_modes(ms, ln, tw, w, i, i, false);
+            false
+        }
     }
-    if g == 11 {
-        next_block(ms, ln, tw, w, i, i, true);
-        return false;
-    }
-    if g == 9 {
-        next_block(ms, ln, tw, w, i, find_plain(ms, 0), false);
-        add_modes(ms, ln, tw, w, i, i, true);
-        return true;
-    }
-    next_block(ms, ln, tw, w, i, find_plain(ms, 1), true);
-    add_modes(ms, ln, tw, w, i, i, false);
-    false
 }
 
 // Block i becomes the types in which member i is true, where the blocks before it are right.
@@ -172,22 +152,18 @@ fn truth_block(ms: &[u64], ln: &[u8], tw: &mut [u64], w: usize, i: usize)
 {
     let x = ms[i];
     let g = tag(x);
-    if g < 4 {
-        leaf_block(ms, ln, tw, w, i);
-        return;
+    match g {
+        0..=3 => leaf_block(ms, ln, tw, w, i),
+        4 | 5 => {
+            fill_block(tw, w, i, g == 5);
+            expand_block(tw, w, i, left(x), right(x), g == 5);
+        }
+        6 | 7 => next_block(ms, ln, tw, w, i, left(x), g == 7),
+        _ => {
+            let until = step_block(ms, ln, tw, w, i);
+            expand_block(tw, w, i, left(x), right(x), until);
+        }
     }
-    let l = left(x);
-    if g < 6 {
-        fill_block(tw, w, i, g == 5);
-        expand_block(tw, w, i, l, right(x), g == 5);
-        return;
-    }
-    if g < 8 {
-        next_block(ms, ln, tw, w, i, l, g == 7);
-        return;
-    }
-    let until = step_block(ms, ln, tw, w, i);
-    expand_block(tw, w, i, l, right(x), until);
 }
 
 // Block i of tw becomes the types in which member i is true.
@@ -197,10 +173,8 @@ pub fn truth_words(ms: &[u64], ln: &[u8], tw: &mut [u64], w: usize)
     requires w_in_bounds { length ms.now * w ≤ length tw.old }
     ensures { Truths ms.now ln.now w tw.new }
 {
-    let mut i = 0;
-    while i < ms.len() {
+    for i in 0..ms.len() {
         truth_block(ms, ln, tw, w, i);
-        i += 1;
     }
 }
 
@@ -209,6 +183,5 @@ pub fn bit_at(ws: &[u64], w: usize, i: usize, t: usize) -> bool
     requires { (i * w + w ≤ length ws.now) × (t < w * 64) }
     ensures { result ≡ has w ws.now i t }
 {
-    let at = i * w;
-    wordset::contains(&ws[at..], t)
+    wordset::contains(&ws[i * w..], t)
 }

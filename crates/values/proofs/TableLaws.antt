@@ -19,10 +19,10 @@ use Rattle.ctl.proofs.LeanOrder.{with_in, with_value, with_out, with-unique}
 use Rattle.members.specs.Members.{forms}
 use Rattle.members.specs.Grown.{Ready, Tabled, Grows, Answer}
 use Rattle.members.specs.declared.Added.{Added}
-use Rattle.members.specs.declared.Added.TheVariants.{At, Full}
+use Rattle.std.proofs.Common.{Option, Some, None}
 use Rattle.members.proofs.MemberLaws.{forms-length}
 use Rattle.members.proofs.StepLaws.{◌⊆◌, grows_none, grows-keep, grows_then, drop-later, was-added, was-full}
-use Rattle.values.specs.Values.{is_value, value_forms, Extended}
+use Rattle.values.specs.Values.{is_value, Extended}
 
 forms-many : (tab : List ℕ) (n : ℕ) → n ≤ length tab → length (forms (take n tab)) ≡ n
 forms-many tab n h = forms-length (take n tab) ∙ length-take-le n tab h
@@ -37,12 +37,12 @@ module _ {tab : List ℕ} {n : ℕ} (r : Ready tab n) where
       let u = unique-length (forms (take m tab')) (forms (take n tab) ++ l) g.members.unique g.only in
       omega (arith, forms-many tab' m h, length-append (forms (take n tab)) l, forms-many tab n r.room)
 
-  module _ {k : ℕ} {tab' : List ℕ} {a : Added} (w : Answer tab n tab' (lit k ∷ []) (lit k) a) where
-    one-added : {i m : ℕ} → a ≡ At i m → Extended (lit k ∷ []) tab n tab' m
-    one-added {m = m} e = let d = was-added w e in record { up = d.up; few = grown-few tab' m d.room d.grows; room = d.room; grows = d.grows; behind = d.behind }
+  module _ {k : ℕ} {tab' : List ℕ} {a : Option Added} (w : Answer tab n tab' (lit k ∷ []) (lit k) a) where
+    one-added : {x : Added} → a ≡ Some x → Extended (lit k ∷ []) tab n tab' x.count
+    one-added {x} e = let d = was-added w e in record { up = d.up; few = grown-few tab' x.count d.room d.grows; room = d.room; grows = d.grows; behind = d.behind }
 
     -- there is room for one more
-    one-room : n < length tab → a ≡ Full → ⊥
+    one-room : n < length tab → a ≡ None → ⊥
     one-room h e =
         let o = was-full w e in
         let u = unique-length o.list (forms (take n tab) ++ (lit k ∷ [])) o.unique o.inside in
@@ -57,10 +57,10 @@ module _ {tab : List ℕ} {n : ℕ} (r : Ready tab n) where
   pub kind-other : (kind k : ℕ) → (kind ≡ 4 → ⊥) → Extended (put (eqb kind 4) (lit k) []) tab n tab n
   kind-other kind k f = by_kind kind k (ne_eqb kind 4 f) extended_none
 
-  pub kind-value : (kind k : ℕ) {i m : ℕ} {tab' : List ℕ} {a : Added} → kind ≡ 4 → Answer tab n tab' (lit k ∷ []) (lit k) a → a ≡ At i m → Extended (put (eqb kind 4) (lit k) []) tab n tab' m
+  pub kind-value : (kind k : ℕ) {x : Added} {tab' : List ℕ} {a : Option Added} → kind ≡ 4 → Answer tab n tab' (lit k ∷ []) (lit k) a → a ≡ Some x → Extended (put (eqb kind 4) (lit k) []) tab n tab' x.count
   kind-value kind k f w e = by_kind kind k (eq-eqb kind 4 f) (one-added w e)
 
-  pub kind-full : {k m : ℕ} {l : List Form} {tab' : List ℕ} {a : Added} → n < length tab → Answer tab n tab' (lit k ∷ []) (lit k) a → a ≡ Full → Extended l tab n tab' m
+  pub kind-full : {k m : ℕ} {l : List Form} {tab' : List ℕ} {a : Option Added} → n < length tab → Answer tab n tab' (lit k ∷ []) (lit k) a → a ≡ None → Extended l tab n tab' m
   kind-full h w e = absurd (one-room w h e)
 
   pub ready-extended : {l : List Form} {tab' : List ℕ} {m : ℕ} → Extended l tab n tab' m → length tab' ≡ length tab → Ready tab' m
@@ -92,9 +92,6 @@ pub record Sofar (kinds tab₀ : List ℕ) (n : ℕ) (tab : List ℕ) (m k : ℕ
   pub extended : Extended (map lit (keep (is_value kinds) (below k))) tab₀ n tab m
 
 module _ {kinds tab₀ : List ℕ} {n : ℕ} (r : Ready tab₀ n) where
-  pub sofar-none : Sofar kinds tab₀ n tab₀ n 0
-  sofar-none = record { most = omega arith; same = refl; extended = extended_none r }
-
   module _ {tab : List ℕ} {m k : ℕ} (s : Sofar kinds tab₀ n tab m k) where
     pub sofar-ready : Ready tab m
     sofar-ready = ready-extended r s.extended s.same
@@ -111,9 +108,6 @@ module _ {kinds tab₀ : List ℕ} {n : ℕ} (r : Ready tab₀ n) where
     -- the table has room for the symbols that are left
     pub sofar-room : n + length kinds ≤ length tab₀ → k < length kinds → m < length tab
     sofar-room h l = let f = s.extended.few in let e = s.same in let g = values-few kinds k in omega arith
-
-    pub sofar-all : length kinds ≤ k → Extended (value_forms kinds) tab₀ n tab m
-    sofar-all h = let a = s.most in let e : k ≡ length kinds = omega arith in subst (λ j. Extended (map lit (keep (is_value kinds) (below j))) tab₀ n tab m) e s.extended
 
 -- ---- what that makes of the formulas that stood there
 

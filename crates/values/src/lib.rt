@@ -8,7 +8,7 @@ ghost use Rattle.ctl.specs.Formula.{lit};
 ghost use Rattle.members.specs.Grown.{Ready};
 ghost use Rattle.values.specs.Values.{value_forms, Extended};
 
-use members::{Added, make};
+use members::make;
 
 // The members with symbol k, where its kind is that of a value.
 fn with_value(tab: &mut [u64], n: usize, kind: u8, k: usize) -> usize
@@ -18,10 +18,10 @@ fn with_value(tab: &mut [u64], n: usize, kind: u8, k: usize) -> usize
     if kind != 4 {
         return n;
     }
-    let Added::At { index: _, count } = make(tab, n, 2, k as u64, 0, 0) else {
-        return n;
-    };
-    count
+    match make(tab, n, 2, k as u64, 0, 0) {
+        Some(added) => added.count,
+        None => n,
+    }
 }
 
 // The members with all values; how many there are then.
@@ -30,10 +30,8 @@ pub fn with_values(kinds: &[u8], tab: &mut [u64], n: usize) -> usize
     ensures { Extended (value_forms kinds.now) tab.old n tab.new result }
 {
     let mut m = n;
-    let mut k = 0;
-    while k < kinds.len() {
-        m = with_value(tab, m, kinds[k], k);
-        k += 1;
+    for (k, &kind) in kinds.iter().enumerate() {
+        m = with_value(tab, m, kind, k);
     }
     m
 }

@@ -9,14 +9,10 @@ use limits::Limits;
 use std::env::{Env, FillError};
 use std::io::{Read, Stdin};
 
-// Puts an argument at the start of `word` and gives its length, or 0 where there is no such argument, or a longer one.
-fn argument(env: &impl Env, i: usize, word: &mut [u8]) -> usize
-    ensures { result ≤ length word.new }
-{
-    match env.arg(i, word) {
-        Ok(n) => n,
-        Err(_) => 0,
-    }
+// An argument, read into `word`; none where there is no such argument, or a longer one.
+fn argument<'a>(env: &impl Env, i: usize, word: &'a mut [u8]) -> Option<&'a [u8]> {
+    let n = env.arg(i, word).ok()?;
+    Some(&word[..n])
 }
 
 // How many arguments there are, the program's own name among them.
@@ -33,63 +29,56 @@ fn argument_count(env: &impl Env) -> usize {
 // Whether the first argument is the word `clean`.
 fn cleaning(env: &impl Env) -> bool {
     let mut word = [0u8; 8];
-    let n = argument(env, 1, &mut word);
-    layout::same_text(&word[..n], b"clean")
+    matches!(argument(env, 1, &mut word), Some(b"clean"))
 }
 
-// The value of a digit; of any other byte one that no limit reaches.
-fn digit(b: u8) -> usize
-    ensures { result ≤ 1000 }
-{
-    if b < b'0' {
-        return 1000;
+// A number with one digit more, if it is one, and the number fits.
+fn longer(v: usize, b: u8) -> Option<usize> {
+    if !b.is_ascii_digit() {
+        return None;
     }
-    if b > b'9' {
-        return 1000;
-    }
-    (b - b'0') as usize
+    v.checked_mul(10)?.checked_add(usize::from(b - b'0'))
 }
 
-// A number with one digit more; one that is over every limit stays over it.
-fn longer(v: usize, b: u8) -> usize {
-    if v > 999 {
-        return v;
+// The number that a word spells; none that is empty.
+fn number(word: &[u8]) -> Option<usize> {
+    if word.is_empty() {
+        return None;
     }
-    v * 10 + digit(b)
-}
-
-// The number that a word spells; for anything else, and for no word, one that is no limit.
-fn number(word: &[u8]) -> usize {
     let mut v = 0;
-    let mut k = 0;
-    while k < word.len() {
-        v = longer(v, word[k]);
-        k += 1;
+    for &b in word {
+        v = longer(v, b)?;
     }
-    v
+    Some(v)
 }
 
-fn limit_at(env: &impl Env, i: usize) -> usize {
+fn limit_at(env: &impl Env, i: usize) -> Option<usize> {
     let mut word = [0u8; 16];
-    let n = argument(env, i, &mut word);
-    number(&word[..n])
+    number(argument(env, i, &mut word)?)
 }
 
-// The limits that the arguments from `first` on give: none, or two numbers.
-fn limits_from(env: &impl Env, first: usize) -> Limits {
-    let count = argument_count(env);
-    if count <= first {
-        return limits::usual_limits();
-    }
-    if count - first != 2 {
-        return Limits {
-            lean: 0,
-            closure: 0,
-        };
-    }
-    Limits {
-        lean: limit_at(env, count - 2),
-        closure: limit_at(env, count - 1),
+// Two numbers, the limits of the lean and of the closure.
+fn limits_at(env: &impl Env, i: usize) -> Option<Limits>
+    requires { i ≤ 2 }
+{
+    Some(Limits {
+        lean: limit_at(env, i)?,
+        closure: limit_at(env, i + 1)?,
+    })
+}
+
+// The limits that the arguments from `first` on give: document 01's without any; for what are not two numbers, limits out of their range.
+fn limits_from(env: &impl Env, first: usize) -> Limits
+    requires { first ≤ 2 }
+{
+    let none = Limits {
+        lean: 0,
+        closure: 0,
+    };
+    match argument_count(env).saturating_sub(first) {
+        0 => limits::usual_limits(),
+        2 => limits_at(env, first).unwrap_or(none),
+        _ => none,
     }
 }
 
@@ -100,9 +89,8 @@ fn fill(input: &mut Stdin, store: &mut [u8]) -> usize
     let mut done = 0;
     while done < store.len() {
         match input.read(&mut store[done..]) {
-            Ok(0) => return done,
+            Ok(0) | Err(_) => return done,
             Ok(n) => done += n,
-            Err(_) => return done,
         }
     }
     done
@@ -112,11 +100,9 @@ fn fill(input: &mut Stdin, store: &mut [u8]) -> usize
 fn drain(input: &mut Stdin) {
     let mut chunk = [0u8; 65536];
     for _ in 0..u64::MAX {
-        match input.read(&mut chunk) {
-            Ok(0) => return,
-            Ok(_) => {}
-            Err(_) => return,
-        }
+        let Ok(1..) = input.read(&mut chunk) else {
+            return;
+        };
     }
 }
 

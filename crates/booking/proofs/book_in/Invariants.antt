@@ -5,15 +5,13 @@ use lib.ListN.{length}
 use Rattle.ctl.specs.Lists.{elem}
 use Rattle.tableau.specs.Families.{Survivors}
 use Rattle.start.specs.Starts.{start_list}
-use Rattle.judge.proofs.JudgeLaws.{Kept}
 use Rattle.booking.proofs.BookLaws.{Written}
 use Rattle.booking.proofs.book_in.Given as goal
 
 abbrev pub invariant-loop-n : goal.invariant-loop-n
-invariant-loop-n l =
-    Written (λ q t. elem t (Survivors l.ms l.ln (start_list l.w l.base l.names (length l.ln) q))) l.w l.namings l.initial.store l.store l.n.number
-    × ((l.n.count ≡ l.namings) × Kept l.initial.store l.initial.other l.initial.copy l.initial.todo l.initial.v l.initial.rest l.store l.other l.copy l.todo l.v l.rest)
+invariant-loop-n g l =
+    Written (λ q t. elem t (Survivors l.sheet.ms.now l.sheet.ln.now (start_list l.sheet.words.w l.sheet.base.now l.sheet.names.now (length l.sheet.ln.now) q))) l.sheet.words.w l.namings l.initial.store l.store l.n.number × (l.n.count ≡ l.namings)
 
 abbrev pub decreases-loop-n : goal.decreases-loop-n
-decreases-loop-n l =
+decreases-loop-n g l =
     l.n.count - l.n.number

@@ -1,127 +1,127 @@
 use native.Mathlib.Omega.{arith}
+use Prim.Native.Nat.{ℕ, ◌≤◌}
 use lib.ListN.{get_or}
+use Rattle.members.proofs.StepLaws.{Then, step_then}
 use Rattle.closure.proofs.NodeLaws.{kind_n, reads-small, reads-kind, reads-arg, reads-later, reads-right, reads-earlier, reads-left}
-use Rattle.members.proofs.StepLaws.{step_then}
 use Rattle.closure.proofs.SignLaws.{at_unit, at-letter, at-neg, at-right-full, at_next, at-lone-full, at-lone, at-left-full, at_join, at-until, read-then}
-use Prim.Native.Nat.{◌≤◌}
+use Rattle.closure.proofs.+positive.Goals.{In_ok-right, In_ok-left-in-6-to-9, In_default-kind, In_ok-left-in_default-kind, in_default-kind-via-then-kind-lt4, in_default-kind-via-else-kind-lt4+else-kind-lt6+else-kind-lt10}
 use Rattle.closure.proofs.+positive.Goals as goal
 
-pub offset_bounds-nodes-i : goal.offset_bounds-nodes-i
-offset_bounds-nodes-i t c =
-    omega (arith, c.requires.0.inside)
+-- the table after the right operand, after the constant of EF, AF, EG and AG, and after the left operand
+right : {t : ℕ} (c : In_ok-right t) → Then c.positive-2.new.tab c.args.n c.in_ok-right.right.index c.in_ok-right.right.count
+right c =
+    read-then c.args.sign (reads-right c.requires.0 (omega arith)) c.requires.1 c.positive-2.ensures c.in_ok-right.was c.positive-2.auto.tab
 
-pub bounds-nodes-i : goal.bounds-nodes-i
-bounds-nodes-i t c =
-    omega (arith, c.requires.0.inside)
+lone : {t : ℕ} (c : In_ok-left-in-6-to-9 t) → Then c.unit-in-6-to-9.new.tab c.in_ok-right.right.count c.in_ok-left-in-6-to-9.left.index c.in_ok-left-in-6-to-9.left.count
+lone c =
+    let d = read-then c.args.sign (reads-right c.requires.0 (omega arith)) c.requires.1 c.positive-2.ensures c.in_ok-right.was c.positive-2.auto.tab in
+    step_then d.ready c.unit-in-6-to-9.ensures c.in_ok-left-in-6-to-9.was c.unit-in-6-to-9.auto.tab
 
-pub unit-requires : goal.unit-requires
-unit-requires t c =
-    c.requires.1
+above : {t : ℕ} (c : In_default-kind t) → 10 ≤ kind_n (get_or c.args.nodes.now c.args.i 0)
+above c = elim c.in_default-kind.branch [
+  | in_default-kind-via-then-kind-lt4 w ↦ omega arith
+  | in_default-kind-via-else-kind-lt4+else-kind-lt6+else-kind-lt10 w ↦ omega arith
+]
 
-pub returns-then-kind-lt2 : goal.returns-then-kind-lt2
-returns-then-kind-lt2 t c =
-    at_unit _ _ _ _ _ (reads-small c.requires.0) c.if-kind-lt2.true _ c.flipped.ensures c.unit.ensures
+left : {t : ℕ} (c : In_ok-left-in_default-kind t) → 10 ≤ kind_n (get_or c.args.nodes.now c.args.i 0)
+    → Then c.positive-in_default-kind.new.tab c.in_ok-right.right.count c.in_ok-left-in_default-kind.left.index c.in_ok-left-in_default-kind.left.count
+left c h =
+    let d = read-then c.args.sign (reads-right c.requires.0 (omega arith)) c.requires.1 c.positive-2.ensures c.in_ok-right.was c.positive-2.auto.tab in
+    read-then c.flipped-other.result (reads-left c.requires.0 h) d.ready c.positive-in_default-kind.ensures c.in_ok-left-in_default-kind.was c.positive-in_default-kind.auto.tab
+
+pub returns-in-0 : goal.returns-in-0
+returns-in-0 t c =
+    at_unit _ _ _ _ _ (reads-small c.requires.0) (omega arith) _ c.flipped.ensures c.unit.ensures
 
 pub letter-requires : goal.letter-requires
-letter-requires t c =
-    (c.requires.1, reads-arg c.requires.0)
+letter-requires t c = (c.requires.1, reads-arg c.requires.0)
 
-pub returns-then-kind-eq2 : goal.returns-then-kind-eq2
-returns-then-kind-eq2 t c =
-    at-letter _ _ _ _ _ (reads-small c.requires.0) c.if-kind-eq2.true c.letter.ensures
+pub returns-in-2 : goal.returns-in-2
+returns-in-2 t c =
+    at-letter _ _ _ _ _ (reads-small c.requires.0) c.in-2.is c.letter.ensures
 
 pub overflow_sub-i : goal.overflow_sub-i
-overflow_sub-i t c =
-    reads-later c.requires.0 (omega (arith, c.if-kind-eq3.true))
+overflow_sub-i t c = reads-later c.requires.0 (omega arith)
 
 pub positive-requires : goal.positive-requires
 positive-requires t c =
-    let h : 3 ≤ kind_n (get_or c.args.nodes.now c.args.i 0) = omega (arith, c.if-kind-eq3.true) in
+    let h : 3 ≤ kind_n (get_or c.args.nodes.now c.args.i 0) = omega arith in
     let l = reads-later c.requires.0 h in
-    (omega (arith, c.decreases), (reads-right c.requires.0 h, c.requires.1))
+    (omega arith, (reads-right c.requires.0 h, c.requires.1))
 
-pub returns-then-kind-eq3 : goal.returns-then-kind-eq3
-returns-then-kind-eq3 t c =
-    at-neg _ _ _ _ _ (reads-small c.requires.0) c.if-kind-eq3.true c.positive.ensures
+pub returns-in-3 : goal.returns-in-3
+returns-in-3 t c =
+    at-neg _ _ _ _ _ (reads-small c.requires.0) c.in-3.is c.positive.ensures
 
 pub overflow_sub-i-2 : goal.overflow_sub-i-2
-overflow_sub-i-2 t c =
-    reads-later c.requires.0 (omega (arith, c.if-kind-lt2.false, c.if-kind-eq2.false))
+overflow_sub-i-2 t c = reads-later c.requires.0 (omega arith)
 
 pub positive-requires-2 : goal.positive-requires-2
 positive-requires-2 t c =
-    let h : 3 ≤ kind_n (get_or c.args.nodes.now c.args.i 0) = omega (arith, c.if-kind-lt2.false, c.if-kind-eq2.false) in
+    let h : 3 ≤ kind_n (get_or c.args.nodes.now c.args.i 0) = omega arith in
     let l = reads-later c.requires.0 h in
-    (omega (arith, c.decreases), (reads-right c.requires.0 h, c.requires.1))
+    (omega arith, (reads-right c.requires.0 h, c.requires.1))
 
-pub returns-in_default : goal.returns-in_default
-returns-in_default t c =
-    at-right-full _ _ _ _ _ (reads-small c.requires.0) (omega (arith, c.if-kind-lt2.false, c.if-kind-eq2.false, c.if-kind-eq3.false)) c.positive-2.ensures c.in_default.is
+pub returns-in_err-right : goal.returns-in_err-right
+returns-in_err-right t c =
+    rw c.from_residual.ensures (at-right-full _ _ _ _ _ (reads-small c.requires.0) (omega arith) c.positive-2.ensures c.in_err-right.was)
 
 pub next-requires : goal.next-requires
 next-requires t c =
-    let h : 3 ≤ kind_n (get_or c.args.nodes.now c.args.i 0) = omega (arith, c.if-kind-lt2.false, c.if-kind-eq2.false) in
-    let d = read-then c.args.sign (reads-right c.requires.0 h) c.requires.1 c.positive-2.ensures c.in-At.is c.positive-2.auto.tab in
+    let d = right (goal.at.next-requires t c).In_ok-right in
     (d.ready, (reads-arg c.requires.0, d.below))
 
-pub returns-then-kind-lt6 : goal.returns-then-kind-lt6
-returns-then-kind-lt6 t c =
-    at_next _ _ _ _ _ (reads-small c.requires.0) c.requires.1 (omega (arith, c.if-kind-lt2.false, c.if-kind-eq2.false, c.if-kind-eq3.false)) c.positive-2.ensures c.in-At.is c.positive-2.auto.tab c.if-kind-lt6.true _ c.flipped-then-kind-lt6.ensures c.next.ensures
+pub returns-in-4 : goal.returns-in-4
+returns-in-4 t c =
+    at_next _ _ _ _ _ (reads-small c.requires.0) c.requires.1 (omega arith) c.positive-2.ensures c.in_ok-right.was c.positive-2.auto.tab (omega arith) _ c.flipped-in-4.ensures c.next.ensures
 
-pub lone_unit-requires : goal.lone_unit-requires
-lone_unit-requires t c =
-    omega (arith, c.if-kind-lt6.false, c.if-kind-lt10.true)
+pub unit-requires-in-6-to-9 : goal.unit-requires-in-6-to-9
+unit-requires-in-6-to-9 t c = (right (goal.at.unit-requires-in-6-to-9 t c).In_ok-right).ready
 
-pub unit-requires-then-kind-lt10 : goal.unit-requires-then-kind-lt10
-unit-requires-then-kind-lt10 t c =
-    let h : 3 ≤ kind_n (get_or c.args.nodes.now c.args.i 0) = omega (arith, c.if-kind-lt2.false, c.if-kind-eq2.false) in
-    (read-then c.args.sign (reads-right c.requires.0 h) c.requires.1 c.positive-2.ensures c.in-At.is c.positive-2.auto.tab).ready
-
-pub returns-in_default-unit : goal.returns-in_default-unit
-returns-in_default-unit t c =
-    at-lone-full _ _ _ _ _ (reads-small c.requires.0) c.requires.1 (omega (arith, c.if-kind-lt2.false, c.if-kind-eq2.false, c.if-kind-eq3.false)) c.positive-2.ensures c.in-At.is c.positive-2.auto.tab c.if-kind-lt6.false c.if-kind-lt10.true _ c.lone_unit.ensures c.unit-then-kind-lt10.ensures c.in_default-unit.is
+pub returns-in_err-left-in-6-to-9 : goal.returns-in_err-left-in-6-to-9
+returns-in_err-left-in-6-to-9 t c =
+    rw c.from_residual-in_err-left-in-6-to-9.ensures (at-lone-full _ _ _ _ _ (reads-small c.requires.0) c.requires.1 (omega arith) c.positive-2.ensures c.in_ok-right.was c.positive-2.auto.tab (omega arith) (omega arith) _ c.lone_unit.ensures c.unit-in-6-to-9.ensures c.in_err-left-in-6-to-9.was)
 
 pub until-requires : goal.until-requires
 until-requires t c =
-    let h : 3 ≤ kind_n (get_or c.args.nodes.now c.args.i 0) = omega (arith, c.if-kind-lt2.false, c.if-kind-eq2.false) in
-    let d = read-then c.args.sign (reads-right c.requires.0 h) c.requires.1 c.positive-2.ensures c.in-At.is c.positive-2.auto.tab in
-    let e = step_then d.ready c.unit-then-kind-lt10.ensures c.in-At-unit.is c.unit-then-kind-lt10.auto.tab in
-    (e.ready, (omega (arith, c.if-kind-lt6.false, c.if-kind-lt10.true), (reads-arg c.requires.0, (e.below, omega (arith, d.below, e.up)))))
+    let d = right (goal.at.until-requires t c).In_ok-right in
+    let e = lone (goal.at.until-requires t c).In_ok-left-in-6-to-9 in
+    (e.ready, (omega arith, (reads-arg c.requires.0, (e.below, omega (arith, d.below, e.up)))))
 
-pub returns-then-kind-lt10 : goal.returns-then-kind-lt10
-returns-then-kind-lt10 t c =
-    at-lone _ _ _ _ _ (reads-small c.requires.0) c.requires.1 (omega (arith, c.if-kind-lt2.false, c.if-kind-eq2.false, c.if-kind-eq3.false)) c.positive-2.ensures c.in-At.is c.positive-2.auto.tab c.if-kind-lt6.false c.if-kind-lt10.true _ c.lone_unit.ensures c.unit-then-kind-lt10.ensures c.in-At-unit.is c.unit-then-kind-lt10.auto.tab c.until.ensures
+pub returns-in_ok-left-in-6-to-9 : goal.returns-in_ok-left-in-6-to-9
+returns-in_ok-left-in-6-to-9 t c =
+    at-lone _ _ _ _ _ (reads-small c.requires.0) c.requires.1 (omega arith) c.positive-2.ensures c.in_ok-right.was c.positive-2.auto.tab (omega arith) (omega arith) _ c.lone_unit.ensures c.unit-in-6-to-9.ensures c.in_ok-left-in-6-to-9.was c.unit-in-6-to-9.auto.tab c.until.ensures
 
-pub positive-requires-3 : goal.positive-requires-3
-positive-requires-3 t c =
-    let h : 3 ≤ kind_n (get_or c.args.nodes.now c.args.i 0) = omega (arith, c.if-kind-lt2.false, c.if-kind-eq2.false) in
-    let d = read-then c.args.sign (reads-right c.requires.0 h) c.requires.1 c.positive-2.ensures c.in-At.is c.positive-2.auto.tab in
-    let l = reads-earlier c.requires.0 c.if-kind-lt10.false in
-    (omega (arith, c.decreases), (reads-left c.requires.0 c.if-kind-lt10.false, d.ready))
+pub positive-requires-in_default-kind : goal.positive-requires-in_default-kind
+positive-requires-in_default-kind t c =
+    let h = above (goal.at.positive-requires-in_default-kind t c).In_default-kind in
+    let l = reads-earlier c.requires.0 h in
+    (omega arith, (reads-left c.requires.0 h, (right (goal.at.positive-requires-in_default-kind t c).In_ok-right).ready))
 
-pub returns-in_default-positive : goal.returns-in_default-positive
-returns-in_default-positive t c =
-    at-left-full _ _ _ _ _ (reads-small c.requires.0) c.requires.1 (omega (arith, c.if-kind-lt2.false, c.if-kind-eq2.false, c.if-kind-eq3.false)) c.positive-2.ensures c.in-At.is c.positive-2.auto.tab c.if-kind-lt10.false _ c.flipped-other.ensures c.positive-3.ensures c.in_default-positive.is
+pub returns-in_err-left-in_default-kind : goal.returns-in_err-left-in_default-kind
+returns-in_err-left-in_default-kind t c =
+    let h = above (goal.at.returns-in_err-left-in_default-kind t c).In_default-kind in
+    rw c.from_residual-in_err-left-in_default-kind.ensures (at-left-full _ _ _ _ _ (reads-small c.requires.0) c.requires.1 (omega arith) c.positive-2.ensures c.in_ok-right.was c.positive-2.auto.tab h _ c.flipped-other.ensures c.positive-in_default-kind.ensures c.in_err-left-in_default-kind.was)
 
 pub join-requires : goal.join-requires
 join-requires t c =
-    let h : 3 ≤ kind_n (get_or c.args.nodes.now c.args.i 0) = omega (arith, c.if-kind-lt2.false, c.if-kind-eq2.false) in
-    let d = read-then c.args.sign (reads-right c.requires.0 h) c.requires.1 c.positive-2.ensures c.in-At.is c.positive-2.auto.tab in
-    let e = read-then c.flipped-other.result (reads-left c.requires.0 c.if-kind-lt10.false) d.ready c.positive-3.ensures c.in-At-positive.is c.positive-3.auto.tab in
+    let d = right (goal.at.join-requires t c).In_ok-right in
+    let e = left (goal.at.join-requires t c).In_ok-left-in_default-kind (omega arith) in
     (e.ready, (e.below, omega (arith, d.below, e.up)))
 
-pub returns-then-kind-lt13 : goal.returns-then-kind-lt13
-returns-then-kind-lt13 t c =
-    at_join _ _ _ _ _ (reads-small c.requires.0) c.requires.1 (omega (arith, c.if-kind-lt2.false, c.if-kind-eq2.false, c.if-kind-eq3.false)) c.positive-2.ensures c.in-At.is c.positive-2.auto.tab c.if-kind-lt10.false _ c.flipped-other.ensures c.positive-3.ensures c.in-At-positive.is c.positive-3.auto.tab c.if-kind-lt13.true _ c.flipped-then-kind-lt13.ensures c.join.ensures
+pub returns-in-10-to-12 : goal.returns-in-10-to-12
+returns-in-10-to-12 t c =
+    at_join _ _ _ _ _ (reads-small c.requires.0) c.requires.1 (omega arith) c.positive-2.ensures c.in_ok-right.was c.positive-2.auto.tab (omega arith) _ c.flipped-other.ensures c.positive-in_default-kind.ensures c.in_ok-left-in_default-kind.was c.positive-in_default-kind.auto.tab (omega arith) _ c.flipped-some.ensures c.join.ensures
 
-pub until-requires-2 : goal.until-requires-2
-until-requires-2 t c =
-    let h : 3 ≤ kind_n (get_or c.args.nodes.now c.args.i 0) = omega (arith, c.if-kind-lt2.false, c.if-kind-eq2.false) in
+pub until-requires-in_default-kind-2 : goal.until-requires-in_default-kind-2
+until-requires-in_default-kind-2 t c =
+    let h = above (goal.at.until-requires-in_default-kind-2 t c).In_default-kind in
     let k = reads-kind c.requires.0 in
-    let d = read-then c.args.sign (reads-right c.requires.0 h) c.requires.1 c.positive-2.ensures c.in-At.is c.positive-2.auto.tab in
-    let e = read-then c.flipped-other.result (reads-left c.requires.0 c.if-kind-lt10.false) d.ready c.positive-3.ensures c.in-At-positive.is c.positive-3.auto.tab in
-    (e.ready, (omega (arith, c.if-kind-lt13.false), (reads-arg c.requires.0, (e.below, omega (arith, d.below, e.up)))))
+    let d = right (goal.at.until-requires-in_default-kind-2 t c).In_ok-right in
+    let e = left (goal.at.until-requires-in_default-kind-2 t c).In_ok-left-in_default-kind h in
+    (e.ready, (omega arith, (reads-arg c.requires.0, (e.below, omega (arith, d.below, e.up)))))
 
-pub returns : goal.returns
-returns t c =
-    at-until _ _ _ _ _ (reads-small c.requires.0) c.requires.1 (omega (arith, c.if-kind-lt2.false, c.if-kind-eq2.false, c.if-kind-eq3.false)) c.positive-2.ensures c.in-At.is c.positive-2.auto.tab c.if-kind-lt10.false _ c.flipped-other.ensures c.positive-3.ensures c.in-At-positive.is c.positive-3.auto.tab c.if-kind-lt13.false c.until-2.ensures
+pub returns-in_default-kind-2 : goal.returns-in_default-kind-2
+returns-in_default-kind-2 t c =
+    let h = above (goal.at.returns-in_default-kind-2 t c).In_default-kind in
+    at-until _ _ _ _ _ (reads-small c.requires.0) c.requires.1 (omega arith) c.positive-2.ensures c.in_ok-right.was c.positive-2.auto.tab h _ c.flipped-other.ensures c.positive-in_default-kind.ensures c.in_ok-left-in_default-kind.was c.positive-in_default-kind.auto.tab (omega arith) c.until-in_default-kind-2.ensures

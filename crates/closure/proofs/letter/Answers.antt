@@ -15,18 +15,18 @@ pub make-requires-2 : goal.make-requires-2
 make-requires-2 c =
     asks-nlit c.requires.0 c.requires.1
 
-pub returns-in_default : goal.returns-in_default
-returns-in_default c =
-    letter-full _ _ c.if-sign.false c.make-2.ensures c.in_default.is
+pub returns-in_err-whole : goal.returns-in_err-whole
+returns-in_err-whole c =
+    rw c.from_residual.ensures (letter-full _ _ c.if-sign.false c.make-2.ensures c.in_err-whole.was)
 
 pub make-requires-3 : goal.make-requires-3
 make-requires-3 c =
-    asks-lit (ready-then c.requires.0 (was-added c.make-2.ensures c.in-At.is) c.make-2.auto.tab) c.requires.1
+    asks-lit (ready-then c.requires.0 (was-added c.make-2.ensures c.in_ok-whole.was) c.make-2.auto.tab) c.requires.1
 
-pub returns-in_default-make : goal.returns-in_default-make
-returns-in_default-make c =
-    letter-full-2 _ _ c.requires.0 (was-added c.make-2.ensures c.in-At.is) c.make-2.auto.tab c.if-sign.false c.make-3.ensures c.in_default-make.is
+pub returns-in_err-symbol : goal.returns-in_err-symbol
+returns-in_err-symbol c =
+    rw c.from_residual-in_err-symbol.ensures (letter-full-2 _ _ c.requires.0 (was-added c.make-2.ensures c.in_ok-whole.was) c.make-2.auto.tab c.if-sign.false c.make-3.ensures c.in_err-symbol.was)
 
 pub returns : goal.returns
 returns c =
-    letter-last _ _ c.requires.0 (was-added c.make-2.ensures c.in-At.is) c.make-2.auto.tab c.if-sign.false c.make-3.ensures c.in-At-make.is
+    letter-last _ _ c.requires.0 (was-added c.make-2.ensures c.in_ok-whole.was) c.make-2.auto.tab c.if-sign.false c.make-3.ensures c.in_ok-symbol.was

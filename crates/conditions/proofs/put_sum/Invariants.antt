@@ -1,5 +1,4 @@
 -- `put_sum` meets its contract: the first k words have their sum. Assumes nothing.
-use Prim.Native.Nat.{◌-◌}
 use Rattle.wordset.specs.Answers.{Answers}
 use Rattle.truth.proofs.Redoing.{Redoing}
 use Rattle.conditions.specs.Entries.{in_some}
@@ -7,6 +6,3 @@ use Rattle.conditions.proofs.put_sum.Given as goal
 
 abbrev pub invariant-loop-k : goal.invariant-loop-k
 invariant-loop-k l = Redoing (Answers (in_some l.w l.initial.cw l.a)) l.w l.e l.initial.cw l.cw l.k
-
-abbrev pub decreases-loop-k : goal.decreases-loop-k
-decreases-loop-k l = l.w - l.k

@@ -1,10 +1,6 @@
 -- `turn_sides` meets its contract: the first f backward modes have their sides. Assumes nothing.
-use Prim.Native.Nat.{◌-◌}
 use Rattle.conditions.proofs.Sides.{Turning}
 use Rattle.conditions.proofs.turn_sides.Given as goal
 
 abbrev pub invariant-loop-f : goal.invariant-loop-f
 invariant-loop-f l = Turning l.w l.initial.cw l.cw l.f
-
-abbrev pub decreases-loop-f : goal.decreases-loop-f
-decreases-loop-f l = 8 - l.f

@@ -7,9 +7,9 @@ use Rattle.edges.proofs.entry.Goals as goal
 pub returns-then-k-lt8 : goal.returns-then-k-lt8
 unfolding entry_at
 returns-then-k-lt8 c =
-    c.wide.ensures ∙ simp (lt-ltb _ _ c.if-k-lt8.true)
+    c.from.ensures ∙ simp (lt-ltb _ _ c.if-k-lt8.true)
 
-pub returns : goal.returns
+pub returns-else-k-lt8 : goal.returns-else-k-lt8
 unfolding entry_at
-returns c =
+returns-else-k-lt8 c =
     simp (le-ltb _ _ c.if-k-lt8.false)

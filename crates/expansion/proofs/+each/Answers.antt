@@ -5,10 +5,6 @@ use Rattle.members.proofs.StepLaws.{was-added, ready-then}
 use Rattle.expansion.proofs.EachLaws.{each-skip, each_last, each-full, each-full-2, each-join}
 use Rattle.expansion.proofs.+each.Goals as goal
 
-pub overflow_add-m : goal.overflow_add-m
-overflow_add-m t c =
-    let m = mode-below _ _ c.requires.1.1.0 c.requires.1.1.1.0 c.requires.1.1.1.1 in omega arith
-
 pub each-requires : goal.each-requires
 each-requires t c =
     let m = mode-below _ _ c.requires.1.1.0 c.requires.1.1.1.0 c.requires.1.1.1.1 in
@@ -16,52 +12,36 @@ each-requires t c =
 
 pub returns-then-rest-eq0 : goal.returns-then-rest-eq0
 returns-then-rest-eq0 t c =
-    each-skip _ _ _ _ _ _ (mode-below _ _ c.requires.1.1.0 c.requires.1.1.1.0 c.requires.1.1.1.1) c.if-rest-eq0.true c.each.ensures
-
-pub bit-requires : goal.bit-requires
-bit-requires t c =
-    mode-below _ _ c.requires.1.1.0 c.requires.1.1.1.0 c.requires.1.1.1.1
-
-pub next_one-requires : goal.next_one-requires
-next_one-requires t c =
-    (c.requires.0, (c.bit.ensures.1, c.requires.1.0))
+    each-skip _ _ _ _ _ _ c.requires.1.1 c.if-rest-eq0.true c.each.ensures
 
 pub returns-then-rest-eq1 : goal.returns-then-rest-eq1
 returns-then-rest-eq1 t c =
-    each_last _ _ _ _ _ _ _ (mode-below _ _ c.requires.1.1.0 c.requires.1.1.1.0 c.requires.1.1.1.1) c.if-rest-eq1.true c.bit.ensures.0 c.next_one.ensures
-
-pub overflow_add-m-2 : goal.overflow_add-m-2
-overflow_add-m-2 t c =
-    let m = mode-below _ _ c.requires.1.1.0 c.requires.1.1.1.0 c.requires.1.1.1.1 in omega arith
+    each_last _ _ _ _ _ _ _ c.requires.1.1 c.if-rest-eq1.true c.bit.ensures.0 c.next_one.ensures
 
 pub each-requires-2 : goal.each-requires-2
 each-requires-2 t c =
     let m = mode-below _ _ c.requires.1.1.0 c.requires.1.1.1.0 c.requires.1.1.1.1 in
     (omega (arith, c.decreases, c.requires.1.1.1.0), (c.requires.0, (c.requires.1.0, (omega arith, (omega (arith, c.if-rest-eq0.false, c.if-rest-eq1.false, c.requires.1.1.1.0), half-below _ _ m c.requires.1.1.1.1)))))
 
-pub returns-in_default : goal.returns-in_default
-returns-in_default t c =
-    each-full _ _ _ _ _ _ (mode-below _ _ c.requires.1.1.0 c.requires.1.1.1.0 c.requires.1.1.1.1) (omega (arith, c.if-rest-eq0.false)) (omega (arith, c.if-rest-eq0.false, c.if-rest-eq1.false, c.requires.1.1.1.0)) c.requires.1.1.1.1 c.each-2.ensures c.in_default.is
-
-pub bit-requires-2 : goal.bit-requires-2
-bit-requires-2 t c =
-    mode-below _ _ c.requires.1.1.0 c.requires.1.1.1.0 c.requires.1.1.1.1
+pub returns-in_err-later : goal.returns-in_err-later
+returns-in_err-later t c =
+    rw c.from_residual.ensures (each-full _ _ _ _ _ _ c.requires.1.1 c.if-rest-eq0.false c.if-rest-eq1.false c.each-2.ensures c.in_err-later.was)
 
 pub next_one-requires-2 : goal.next_one-requires-2
 next_one-requires-2 t c =
-    let d = was-added c.each-2.ensures c.in-At.is in
+    let d = was-added c.each-2.ensures c.in_ok-later.was in
     (ready-then c.requires.0 d c.each-2.auto.tab, (c.bit-2.ensures.1, omega (arith, d.up, c.requires.1.0)))
 
-pub returns-in_default-next_one : goal.returns-in_default-next_one
-returns-in_default-next_one t c =
-    each-full-2 _ _ _ _ _ _ (mode-below _ _ c.requires.1.1.0 c.requires.1.1.1.0 c.requires.1.1.1.1) (omega (arith, c.if-rest-eq0.false)) (omega (arith, c.if-rest-eq0.false, c.if-rest-eq1.false, c.requires.1.1.1.0)) c.requires.1.1.1.1 c.requires.0 (was-added c.each-2.ensures c.in-At.is) c.each-2.auto.tab _ _ c.bit-2.ensures.0 c.requires.1.0 refl c.next_one-2.ensures c.in_default-next_one.is
+pub returns-in_err-first : goal.returns-in_err-first
+returns-in_err-first t c =
+    rw c.from_residual-in_err-first.ensures (each-full-2 _ _ _ _ _ _ c.requires.1.1 c.if-rest-eq0.false c.if-rest-eq1.false c.requires.0 (was-added c.each-2.ensures c.in_ok-later.was) c.each-2.auto.tab _ _ c.bit-2.ensures.0 c.requires.1.0 refl c.next_one-2.ensures c.in_err-first.was)
 
 pub join-requires : goal.join-requires
 join-requires t c =
-    let d = was-added c.each-2.ensures c.in-At.is in
-    let e = was-added c.next_one-2.ensures c.in-At-next_one.is in
+    let d = was-added c.each-2.ensures c.in_ok-later.was in
+    let e = was-added c.next_one-2.ensures c.in_ok-first.was in
     (ready-then (ready-then c.requires.0 d c.each-2.auto.tab) e c.next_one-2.auto.tab, (e.below, omega (arith, d.below, e.up)))
 
 pub returns : goal.returns
 returns t c =
-    each-join _ _ _ _ _ _ (mode-below _ _ c.requires.1.1.0 c.requires.1.1.1.0 c.requires.1.1.1.1) (omega (arith, c.if-rest-eq0.false)) (omega (arith, c.if-rest-eq0.false, c.if-rest-eq1.false, c.requires.1.1.1.0)) c.requires.1.1.1.1 c.requires.0 (was-added c.each-2.ensures c.in-At.is) c.each-2.auto.tab _ _ c.bit-2.ensures.0 c.requires.1.0 refl (was-added c.next_one-2.ensures c.in-At-next_one.is) c.next_one-2.auto.tab c.join.ensures
+    each-join _ _ _ _ _ _ c.requires.1.1 c.if-rest-eq0.false c.if-rest-eq1.false c.requires.0 (was-added c.each-2.ensures c.in_ok-later.was) c.each-2.auto.tab _ _ c.bit-2.ensures.0 c.requires.1.0 refl (was-added c.next_one-2.ensures c.in_ok-first.was) c.next_one-2.auto.tab c.join.ensures

@@ -1,7 +1,6 @@
 use mathlib.Core.Path.{refl, sym, ◌∙◌}
 use mathlib.Core.Bool.{true≢false}
 use native.Mathlib.Omega.{arith}
-use borrow.Author.Tests.{not-false, not-true}
 use Rattle.wordset.proofs.BelowLaws.{any_false}
 use Rattle.image.proofs.Draining.{drain-empty, drain-less, drain-none, drain-on, drain_rest, drain-start, first-lt, first-own, first_some}
 use Rattle.image.proofs.drain.Goals as goal
@@ -36,7 +35,7 @@ shape_of-rest-then-not-keep_some c =
 
 pub returns-then-not-keep_some : goal.returns-then-not-keep_some
 returns-then-not-keep_some c =
-    let e = sym c.keep_some.ensures.some ∙ not-true _ c.if-not-keep_some.true-raw in
+    let e = sym c.keep_some.ensures.some ∙ c.if-not-keep_some.true in
     record { by_index = drain-empty c.loop-a.invariant _ c.partners.ensures _ c.keep_some.ensures.is e; t_after = λ f. any_false _ _ e }
 
 pub keep_lacking-requires : goal.keep_lacking-requires
@@ -52,7 +51,7 @@ shape_of-rest-then-not-keep_lacking c =
     c.keep_lacking.auto.dst ∙ c.loop-a.invariant.long_rest
 
 pub returns-then-not-keep_lacking : goal.returns-then-not-keep_lacking
-returns-then-not-keep_lacking c = record { by_index = drain_rest c.loop-a.invariant _ c.partners.ensures _ c.keep_some.ensures.is _ c.keep_lacking.ensures.is (sym c.keep_lacking.ensures.some ∙ not-true _ c.if-not-keep_lacking.true-raw); t_after = λ e. absurd (true≢false e) }
+returns-then-not-keep_lacking c = record { by_index = drain_rest c.loop-a.invariant _ c.partners.ensures _ c.keep_some.ensures.is _ c.keep_lacking.ensures.is (sym c.keep_lacking.ensures.some ∙ c.if-not-keep_lacking.true); t_after = λ e. absurd (true≢false e) }
 
 pub first-p-requires : goal.first-p-requires
 first-p-requires c =
@@ -60,10 +59,10 @@ first-p-requires c =
 
 pub refusal_set-requires : goal.refusal_set-requires
 refusal_set-requires c =
-    (let l = first_some _ _ c.first-p.ensures (sym c.keep_lacking.ensures.some ∙ not-false _ c.if-not-keep_lacking.false-raw) in (c.requires.0, omega arith, omega arith))
+    (let l = first_some _ _ c.first-p.ensures (sym c.keep_lacking.ensures.some ∙ c.if-not-keep_lacking.false) in (c.requires.0, omega arith, omega arith))
 
 pub smaller-r-requires : goal.smaller-r-requires
-smaller-r-requires c = record { w_in_bounds = (c.requires.0, c.requires.1, (let m = c.keep_lacking.auto.dst in let l = c.loop-a.invariant.long_rest in let h = c.requires.3 in omega arith)); refused = first-own c.first-p.ensures (first_some _ _ c.first-p.ensures (sym c.keep_lacking.ensures.some ∙ not-false _ c.if-not-keep_lacking.false-raw)) c.refusal_set.ensures }
+smaller-r-requires c = record { w_in_bounds = (c.requires.0, c.requires.1, (let m = c.keep_lacking.auto.dst in let l = c.loop-a.invariant.long_rest in let h = c.requires.3 in omega arith)); refused = first-own c.first-p.ensures (first_some _ _ c.first-p.ensures (sym c.keep_lacking.ensures.some ∙ c.if-not-keep_lacking.false)) c.refusal_set.ensures }
 
 pub loop-a-smaller : goal.loop-a-smaller
 loop-a-smaller c =

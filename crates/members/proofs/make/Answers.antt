@@ -1,14 +1,10 @@
 -- `closure::make` meets its contract: a word of its parts stands for the formula that `form_by` gives. Assumes nothing.
-use mathlib.Core.Path.{sym, ap, ◌∙◌, subst}
+use mathlib.Core.Path.{ap, ◌∙◌}
 use lib.ListN.{take}
-use Rattle.members.specs.Members.{forms, form_of, Canon}
+use Rattle.members.specs.Members.{forms, form_of}
 use Rattle.members.proofs.MemberLaws.{form_of-word}
 use Rattle.members.proofs.StepLaws.{answer-is}
 use Rattle.members.proofs.make.Goals as goal
-
-pub intern-requires : goal.intern-requires
-intern-requires c =
-    (c.requires.0, subst (λ w. Canon c.args.n w) (sym c.word-w.ensures) c.requires.1.1.1.1.1)
 
 pub returns : goal.returns
 returns c =

@@ -1,11 +1,8 @@
-use Rattle.needs.proofs.FieldLaws.{fields-end, fields-on, fields-start}
+use Rattle.needs.proofs.FieldLaws.{fields-on, fields-start}
 use Rattle.needs.proofs.ex_fields.Goals as goal
 
-pub loop-i-preserved : goal.loop-i-preserved
-loop-i-preserved c = fields-on _ c.loop-i.invariant c.loop-i-test.true c.field_of-acc.ensures
+pub loop-x-init : goal.loop-x-init
+loop-x-init c = fields-start
 
-pub returns : goal.returns
-returns c = fields-end c.loop-i.invariant c.loop-i-test.false
-
-pub loop-i-init : goal.loop-i-init
-loop-i-init c = fields-start
+pub loop-x-preserved : goal.loop-x-preserved
+loop-x-preserved c = fields-on _ c.loop-x.invariant c.field_of-acc.ensures

@@ -1,11 +1,6 @@
 -- `field_block` meets its contract: the block has the first i members. Assumes nothing.
-use Prim.Native.Nat.{◌-◌}
-use lib.ListN.{length}
 use Rattle.needs.proofs.BlockSteps.{MembersJoined}
 use Rattle.needs.proofs.field_block.Given as goal
 
 abbrev pub invariant-loop-i : goal.invariant-loop-i
 invariant-loop-i l = MembersJoined l.ms l.ln l.w l.f l.initial.tw l.tw l.i
-
-abbrev pub decreases-loop-i : goal.decreases-loop-i
-decreases-loop-i l = length l.ms - l.i

@@ -1,58 +1,31 @@
-use mathlib.Core.Path.{refl, sym, subst}
-use Prim.Native.Nat.{◌≤◌}
+use Prim.Native.Nat.{◌+◌, ◌≤◌}
 use native.Mathlib.Omega.{arith}
-use Rattle.naming.proofs.NextLaws.{next-less, next-number}
+use lib.ListN.{length}
+use Rattle.naming.proofs.NextLaws.{next-number}
+use Rattle.judge.specs.Judged.{goals_of}
 use Rattle.judge.proofs.JudgeLaws.{found-is}
-use Rattle.pages.proofs.PageLaws.{counted, first-room, page-done, paging-next, paging-start, second-room}
+use Rattle.pages.specs.Pages.{row_of}
+use Rattle.pages.proofs.PageLaws.{Paging, counted, first-room, page-done, paging-next}
 use Rattle.pages.proofs.fill_page.Goals as goal
+use Rattle.pages.proofs.fill_page.Goals.{After-advanced-n}
 
-pub loop-n-init : goal.loop-n-init
-loop-n-init c =
-    let p = c.requires.number_le_count in (paging-start p.0 c.requires.judged refl refl, p.1.0)
-
-pub fill_table-c-requires : goal.fill_table-c-requires
-fill_table-c-requires c = let w = c.requires.places.1.0 in let at = c.loop-n.invariant.0 in record { ready = c.requires.ready; places = (c.requires.places.0, (w, (first-room at w, second-room at w))) }
-
-pub put_naming-k-requires : goal.put_naming-k-requires
-put_naming-k-requires c =
-    let i = c.loop-n.invariant.1 in record { space = omega arith; short = c.requires.number_le_count.1.1 }
-
-pub goal_type-found-requires : goal.goal_type-found-requires
-goal_type-found-requires c = let w = c.requires.places.1 in record { truths = c.requires.ready.truths; goal_in_bounds = (w.1, subst (λ n. c.args.w ≤ n) (sym c.fill_table-c.auto.first) (first-room c.loop-n.invariant.0 w.0), c.requires.ready.small) }
-
-pub overflow_sub-out : goal.overflow_sub-out
-overflow_sub-out c =
-    let i = c.loop-n.invariant.1 in let l = c.put_naming-k.auto.out in let m = c.put_naming-k.ensures.upper_bound in omega arith
+-- a turn, where the naming has been advanced: what is in the buffer and judged then
+turned : (c : After-advanced-n)
+    → Paging (row_of c.args.sheet.now c.args.newline.now) (goals_of c.args.sheet.now c.args.goal) c.args.start c.args.used c.args.out.now c.put_naming-k.new.out c.fill_table-c.new.first c.fill_table-c.new.second c.later-v.result c.put_naming-k.result c.advanced-n.result
+turned c =
+    let at = c.loop-n in
+    let i : at.k + 256 ≤ length at.out = at.invariant.1 in
+    let found = found-is _ _ _ _ _ _ _ at.first _ _ (first-room at.invariant.0 c.requires.places.1.0) c.fill_table-c.ensures.first_holds c.goal_type-found.ensures in
+    paging-next at.invariant.0 c.loop-n-test.true (omega arith) c.put_naming-k.ensures.put (counted _ _ _ _ _ _ _ c.fill_table-c.ensures) c.put_naming-k.auto.out
+    c.fill_table-c.auto.first c.fill_table-c.auto.second found c.later-v.ensures c.advanced-n.ensures
 
 pub returns-then-out-k-lt256 : goal.returns-then-out-k-lt256
 returns-then-out-k-lt256 c =
-    -- a turn, where the naming has been advanced: what is in the buffer and judged then
-    let at = c.loop-n in
-    let i = at.invariant.1 in
-    let l = c.put_naming-k.auto.out in
-    let m = c.put_naming-k.ensures.upper_bound in
-    let found = found-is _ _ _ _ _ _ _ at.first _ _ (first-room at.invariant.0 c.requires.places.1.0) c.fill_table-c.ensures.first_holds c.goal_type-found.ensures in
-    let turned = paging-next at.invariant.0 c.loop-n-test.true (omega arith) c.put_naming-k.ensures.put (counted _ _ _ _ _ _ _ c.fill_table-c.ensures) l
-    c.fill_table-c.auto.first c.fill_table-c.auto.second found c.later-v.ensures c.advanced-n.ensures in
-    let o = at.invariant.0.onward in
-    page-done turned (λ h. omega (arith, next-number _ _ c.advanced-n.ensures c.loop-n-test.true)) (omega arith)
-
-pub loop-n-smaller : goal.loop-n-smaller
-loop-n-smaller c =
-    next-less _ _ c.advanced-n.ensures c.loop-n-test.true
+    let i = c.loop-n.invariant.1 in
+    let long = c.put_naming-k.auto.out in
+    let most = c.put_naming-k.ensures.upper_bound in
+    let onward = c.loop-n.invariant.0.onward in
+    page-done (turned (goal.at.returns-then-out-k-lt256 c).After-advanced-n) (λ h. omega (arith, next-number _ _ c.advanced-n.ensures c.loop-n-test.true)) (omega arith)
 
 pub loop-n-preserved : goal.loop-n-preserved
-loop-n-preserved c =
-    -- a turn, where the naming has been advanced: what is in the buffer and judged then
-    let at = c.loop-n in
-    let i = at.invariant.1 in
-    let l = c.put_naming-k.auto.out in
-    let m = c.put_naming-k.ensures.upper_bound in
-    let found = found-is _ _ _ _ _ _ _ at.first _ _ (first-room at.invariant.0 c.requires.places.1.0) c.fill_table-c.ensures.first_holds c.goal_type-found.ensures in
-    let turned = paging-next at.invariant.0 c.loop-n-test.true (omega arith) c.put_naming-k.ensures.put (counted _ _ _ _ _ _ _ c.fill_table-c.ensures) l
-    c.fill_table-c.auto.first c.fill_table-c.auto.second found c.later-v.ensures c.advanced-n.ensures in
-    (turned, omega arith)
-
-pub returns : goal.returns
-returns c =
-    let i = c.loop-n.invariant.1 in page-done c.loop-n.invariant.0 (λ h. absurd (omega arith)) (omega arith)
+loop-n-preserved c = (turned (goal.at.loop-n-preserved c).After-advanced-n, omega arith)

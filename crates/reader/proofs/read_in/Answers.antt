@@ -1,7 +1,7 @@
 -- `read_in` meets its contract, a return for each refusal, and one for a sheet that has none. Assumes nothing.
+use Rattle.std.specs.Prelude.{replicate}
 use Rattle.reader.proofs.ReadLaws.{refused-read, lines-within, closes, refused-beyond, refused-many, still-few, kinds-within, symbols-within, words-line, values-ask, leans, refused-crowded, refused-wide, accepted-is}
 use mathlib.Core.Path.{refl, sym}
-use Rattle.std.specs.Prelude.{replicate}
 use lib.Seq.{length-take-le}
 use Rattle.reader.proofs.read_in.Goals as goal
 
@@ -26,7 +26,7 @@ returns-in_default c =
 
 pub returns-then-most-closed : goal.returns-then-most-closed
 returns-then-most-closed c =
-    refused-many c.in_ok-sheet.ensures (still-few c.read_sheet.auto.tab c.requires.nodes_nonzero.0) c.roots_of-roots.ensures c.requires.most_bound.0 refl c.close.ensures c.in-Within.is _ c.if-most-closed.true
+    refused-many c.in_ok-sheet.ensures (still-few c.read_sheet.auto.tab c.requires.nodes_nonzero.0) c.roots_of-roots.ensures c.requires.most_bound.0 refl c.close.ensures c.in-Some.is _ c.if-most-closed.true
 
 pub slice_bounds-kinds-end : goal.slice_bounds-kinds-end
 slice_bounds-kinds-end c =
@@ -38,7 +38,7 @@ slice_bounds-with_values-end c =
 
 pub with_values-count-requires : goal.with_values-count-requires
 with_values-count-requires c =
-    values-ask c.in_ok-sheet.ensures (still-few c.read_sheet.auto.tab c.requires.nodes_nonzero.0) c.roots_of-roots.ensures c.requires.most_bound.0 refl c.close.ensures c.in-Within.is c.if-most-closed.false c.requires.most_bound.1
+    values-ask c.in_ok-sheet.ensures (still-few c.read_sheet.auto.tab c.requires.nodes_nonzero.0) c.roots_of-roots.ensures c.requires.most_bound.0 refl c.close.ensures c.in-Some.is c.if-most-closed.false c.requires.most_bound.1
 
 pub slice_bounds-words-end : goal.slice_bounds-words-end
 slice_bounds-words-end c =
@@ -50,7 +50,7 @@ slice_bounds-lean_of-end-2 c =
 
 pub lean_of-requires : goal.lean_of-requires
 lean_of-requires c =
-    leans c.in_ok-sheet.ensures (still-few c.read_sheet.auto.tab c.requires.nodes_nonzero.0) c.roots_of-roots.ensures c.requires.most_bound.0 refl c.close.ensures c.in-Within.is c.if-most-closed.false c.requires.most_bound.1 c.with_values-count.ensures (words-line c.in_ok-sheet.ensures (still-few c.read_sheet.auto.tab c.requires.nodes_nonzero.0))
+    leans c.in_ok-sheet.ensures (still-few c.read_sheet.auto.tab c.requires.nodes_nonzero.0) c.roots_of-roots.ensures c.requires.most_bound.0 refl c.close.ensures c.in-Some.is c.if-most-closed.false c.requires.most_bound.1 c.with_values-count.ensures (words-line c.in_ok-sheet.ensures (still-few c.read_sheet.auto.tab c.requires.nodes_nonzero.0))
 
 pub shape_of-nodes-in_default-lean_of : goal.shape_of-nodes-in_default-lean_of
 shape_of-nodes-in_default-lean_of c =
@@ -58,7 +58,7 @@ shape_of-nodes-in_default-lean_of c =
 
 pub returns-in_default-lean_of : goal.returns-in_default-lean_of
 returns-in_default-lean_of c =
-    refused-crowded c.in_ok-sheet.ensures (still-few c.read_sheet.auto.tab c.requires.nodes_nonzero.0) c.roots_of-roots.ensures c.requires.most_bound.0 refl c.close.ensures c.in-Within.is c.if-most-closed.false c.requires.most_bound.1 c.with_values-count.ensures (words-line c.in_ok-sheet.ensures (still-few c.read_sheet.auto.tab c.requires.nodes_nonzero.0)) (replicate 12 0) c.lean_of.new.lean refl _ c.lean_of.ensures c.in_default-lean_of.is
+    refused-crowded c.in_ok-sheet.ensures (still-few c.read_sheet.auto.tab c.requires.nodes_nonzero.0) c.roots_of-roots.ensures c.requires.most_bound.0 refl c.close.ensures c.in-Some.is c.if-most-closed.false c.requires.most_bound.1 c.with_values-count.ensures (words-line c.in_ok-sheet.ensures (still-few c.read_sheet.auto.tab c.requires.nodes_nonzero.0)) (replicate 12 0) c.lean_of.new.lean refl _ c.lean_of.ensures c.in_default-lean_of.is
 
 pub shape_of-nodes-then-wide-width : goal.shape_of-nodes-then-wide-width
 shape_of-nodes-then-wide-width c =
@@ -66,8 +66,8 @@ shape_of-nodes-then-wide-width c =
 
 pub returns-then-wide-width : goal.returns-then-wide-width
 returns-then-wide-width c =
-    refused-wide c.in_ok-sheet.ensures (still-few c.read_sheet.auto.tab c.requires.nodes_nonzero.0) c.roots_of-roots.ensures c.requires.most_bound.0 refl c.close.ensures c.in-Within.is c.if-most-closed.false c.requires.most_bound.1 c.with_values-count.ensures (words-line c.in_ok-sheet.ensures (still-few c.read_sheet.auto.tab c.requires.nodes_nonzero.0)) (replicate 12 0) c.lean_of.new.lean refl _ c.lean_of.ensures c.in-Some.is c.if-wide-width.true
+    refused-wide c.in_ok-sheet.ensures (still-few c.read_sheet.auto.tab c.requires.nodes_nonzero.0) c.roots_of-roots.ensures c.requires.most_bound.0 refl c.close.ensures c.in-Some.is c.if-most-closed.false c.requires.most_bound.1 c.with_values-count.ensures (words-line c.in_ok-sheet.ensures (still-few c.read_sheet.auto.tab c.requires.nodes_nonzero.0)) (replicate 12 0) c.lean_of.new.lean refl _ c.lean_of.ensures c.in-Some-lean_of.is c.if-wide-width.true
 
 pub returns : goal.returns
 returns c =
-    accepted-is c.in_ok-sheet.ensures (still-few c.read_sheet.auto.tab c.requires.nodes_nonzero.0) c.roots_of-roots.ensures c.requires.most_bound.0 refl c.close.ensures c.in-Within.is c.if-most-closed.false c.requires.most_bound.1 c.with_values-count.ensures (words-line c.in_ok-sheet.ensures (still-few c.read_sheet.auto.tab c.requires.nodes_nonzero.0)) (replicate 12 0) c.lean_of.new.lean refl _ c.lean_of.ensures c.in-Some.is c.if-wide-width.false
+    accepted-is c.in_ok-sheet.ensures (still-few c.read_sheet.auto.tab c.requires.nodes_nonzero.0) c.roots_of-roots.ensures c.requires.most_bound.0 refl c.close.ensures c.in-Some.is c.if-most-closed.false c.requires.most_bound.1 c.with_values-count.ensures (words-line c.in_ok-sheet.ensures (still-few c.read_sheet.auto.tab c.requires.nodes_nonzero.0)) (replicate 12 0) c.lean_of.new.lean refl _ c.lean_of.ensures c.in-Some-lean_of.is c.if-wide-width.false

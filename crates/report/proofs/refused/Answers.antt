@@ -5,6 +5,8 @@ use native.Mathlib.Omega.{arith}
 use lib.ListN.{take}
 use lib.Seq.{length-take-le}
 use Rattle.buffer.proofs.PutLaws.{put_front}
+use Rattle.lines.specs.Lines.{refused_line}
+use Rattle.refusal.proofs.NumberLaws.{number-some}
 use Rattle.report.specs.Text.{lines_of, up_to}
 use Rattle.report.proofs.TextLaws.{refused-count, refused-text}
 use Rattle.report.proofs.refused.Goals as goal
@@ -17,8 +19,9 @@ slice_bounds-write_lines-end c =
 
 pub write_lines-requires : goal.write_lines-requires
 write_lines-requires c =
-    ap (λ k. up_to k (lines_of c.args.l c.args.sheet.now c.args.newline.now) ++ take c.put_refused-n.result c.put_refused-n.new.out) c.requires.done_value ∙ put_front (omega arith) c.put_refused-n.ensures.put ∙ sym (refused-text _ _ _ _ c.requires.k_value.0 c.requires.k_value.1.0)
+    ap (λ k. up_to k (lines_of c.args.job.now.limits c.args.job.now.sheet.now c.args.job.now.newline.now) ++ take c.put_refused-n.result c.put_refused-n.new.out) c.requires.done_value ∙ put_front (omega arith) c.put_refused-n.ensures.put
+    ∙ ap (λ k. refused_line k c.args.job.now.newline.now) c.number.ensures ∙ sym (refused-text _ _ _ _ c.requires.why_value.0 (number-some _))
 
 pub returns : goal.returns
 returns c =
-    c.write_lines.ensures ∙ refused-count _ _ _ _ c.requires.k_value.0 c.requires.k_value.1.0
+    c.write_lines.ensures ∙ refused-count _ _ _ _ c.requires.why_value.0 (number-some _)

@@ -2,10 +2,8 @@
 use Rattle.sheet.proofs.FormulaLaws.{one-done, one-wrong}
 use Rattle.sheet.proofs.read_one.Goals as goal
 
-pub returns-in-Done : goal.returns-in-Done
-returns-in-Done c =
-    one-done _ _ _ _ _ _ c.read_line.ensures _ _ _ c.in-Done.is _ c.found_refusal.ensures
+pub returns-in-Some : goal.returns-in-Some
+returns-in-Some c = one-done _ _ _ _ _ _ c.read_line.ensures _ c.in-Some.is _ c.found_refusal.ensures
 
-pub returns-in-Wrong : goal.returns-in-Wrong
-returns-in-Wrong c =
-    one-wrong _ _ _ _ _ _ c.read_line.ensures c.in-Wrong.is
+pub returns-in-None : goal.returns-in-None
+returns-in-None c = one-wrong _ _ _ _ _ _ c.read_line.ensures c.in-None.is

@@ -3,17 +3,8 @@ use Rattle.snapshot.proofs.EntryLaws.{judged-few}
 use Prim.Native.Nat.{ℕ}
 use mathlib.Core.Path.{ap₂, ◌∙◌}
 use mathlib.Core.List.{List}
-use native.Mathlib.Omega.{arith}
 use Rattle.snapshot.specs.Read.{judged, read_snapshot}
 use Rattle.snapshot.proofs.read.Goals as goal
-
-pub lines-n-requires : goal.lines-n-requires
-lines-n-requires c =
-    c.requires.0
-
-pub judge-requires : goal.judge-requires
-judge-requires c =
-    (c.requires.0, omega (arith, c.requires.1, c.lines-n.ensures.1.1))
 
 pub returns : goal.returns
 unfolding read_snapshot

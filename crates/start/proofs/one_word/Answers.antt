@@ -1,21 +1,16 @@
+use mathlib.Core.Path.{sym, ◌∙◌}
 use native.Mathlib.Omega.{arith}
 use Rattle.start.proofs.StartWords.{counted-on, counted_start, one_none, one-of}
 use Rattle.start.proofs.one_word.Goals as goal
 
-pub overflow_cast-values : goal.overflow_cast-values
-overflow_cast-values c = omega (arith, c.type_inv.values c.loop-i.i)
+pub returns-then-is_empty : goal.returns-then-is_empty
+returns-then-is_empty c = one_none _ (sym c.is_empty.ensures ∙ c.if-is_empty.true)
 
-pub place_word-p-requires : goal.place_word-p-requires
-place_word-p-requires c = c.requires _ c.loop-i-test.true
+pub loop-v-init : goal.loop-v-init
+loop-v-init c = counted_start
 
-pub loop-i-preserved : goal.loop-i-preserved
-loop-i-preserved c = counted-on c.loop-i.invariant c.loop-i-test.true c.place_word-p.ensures
+pub loop-v-preserved : goal.loop-v-preserved
+loop-v-preserved c = counted-on c.loop-v.invariant c.place_word-p.ensures
 
 pub returns : goal.returns
-returns c = one-of _ c.if-values-eq0.false c.loop-i.invariant c.loop-i-test.false
-
-pub returns-then-values-eq0 : goal.returns-then-values-eq0
-returns-then-values-eq0 c = one_none _ c.if-values-eq0.true
-
-pub loop-i-init : goal.loop-i-init
-loop-i-init c = counted_start
+returns c = one-of _ (sym c.is_empty.ensures ∙ c.if-is_empty.false) c.loop-v.invariant (omega arith)

@@ -9,10 +9,10 @@ abbrev pub decreases-formula : goal.decreases-formula
 decreases-formula l = 5 * (length l.s.now - l.at) + 4 - l.level
 
 abbrev pub decreases-more : goal.decreases-more
-decreases-more l = 5 * (length l.s.now - l.next)
+decreases-more l = 5 * (length l.s.now - l.left.next)
 
 abbrev pub decreases-path : goal.decreases-path
-decreases-path l = 5 * (length l.s.now - l.at)
+decreases-path l = 5 * (length l.s.now - l.b.next)
 
 abbrev pub decreases-unit : goal.decreases-unit
 decreases-unit l = 5 * (length l.s.now - l.at)

@@ -12,7 +12,7 @@ pub overflow_mul-result : goal.overflow_mul-result
 overflow_mul-result c = let q = c.word_from-rest.ensures.1 7 (omega arith) in omega arith
 
 pub overflow_add-result-2 : goal.overflow_add-result-2
-overflow_add-result-2 c = let q = c.word_from-rest.ensures.1 7 (omega arith) in omega (arith, c.wide.ensures.0, c.requires.1)
+overflow_add-result-2 c = let q = c.word_from-rest.ensures.1 7 (omega arith) in omega arith
 
 pub returns : goal.returns
-returns c = head-word c.args.s.now c.args.i _ _ (get_or c.args.s.now c.args.i 0) refl c.run_end-e.ensures.0 _ _ c.if-e-a-gt7.false c.wide.ensures.0 c.word_from-rest.ensures.0
+returns c = head-word c.args.s.now c.args.i _ _ (get_or c.args.s.now c.args.i 0) refl c.run_end-e.ensures.0 _ _ c.if-e-a-gt7.false c.from.ensures c.word_from-rest.ensures.0

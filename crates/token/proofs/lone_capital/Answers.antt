@@ -2,8 +2,8 @@
 use Rattle.token.proofs.Fronts.{alone-pair, alone-one}
 use Rattle.token.proofs.lone_capital.Goals as goal
 
-pub returns-in-Is : goal.returns-in-Is
-returns-in-Is c = alone-pair _ _ _ _ c.pair_at.ensures _ c.in-Is.is
+pub returns-in-Some : goal.returns-in-Some
+returns-in-Some c = alone-pair _ _ _ _ c.pair_at.ensures _ c.in-Some.is
 
-pub returns-in-No : goal.returns-in-No
-returns-in-No c = alone-one _ _ _ _ c.pair_at.ensures _ c.in-No.is c.wide.ensures.0
+pub returns-in-None : goal.returns-in-None
+returns-in-None c = alone-one _ _ _ _ c.pair_at.ensures _ c.in-None.is c.from.ensures

@@ -8,10 +8,10 @@ pub returns-then-s-i : goal.returns-then-s-i
 unfolding token_at
 returns-then-s-i c = past_end alone_front c.args.s.now c.args.at _ c.skip_spaces-i.ensures c.if-s-i.true
 
-pub returns-then-is_upper : goal.returns-then-is_upper
+pub returns-then-is_ascii_uppercase : goal.returns-then-is_ascii_uppercase
 unfolding token_at
-returns-then-is_upper c = from-capital alone_front c.args.s.now c.args.at _ c.skip_spaces-i.ensures c.if-s-i.false (sym c.is_upper.ensures ∙ c.if-is_upper.true) c.lone_capital.ensures
+returns-then-is_ascii_uppercase c = from-capital alone_front c.args.s.now c.args.at _ c.skip_spaces-i.ensures c.if-s-i.false (sym c.is_ascii_uppercase.ensures.value ∙ c.if-is_ascii_uppercase.true) c.lone_capital.ensures
 
 pub returns : goal.returns
 unfolding token_at
-returns c = from-plain alone_front c.args.s.now c.args.at _ c.skip_spaces-i.ensures c.if-s-i.false (sym c.is_upper.ensures ∙ c.if-is_upper.false) c.plain_token.ensures
+returns c = from-plain alone_front c.args.s.now c.args.at _ c.skip_spaces-i.ensures c.if-s-i.false (sym c.is_ascii_uppercase.ensures.value ∙ c.if-is_ascii_uppercase.false) c.plain_token.ensures

@@ -4,7 +4,6 @@ use Rattle.ctl.specs.Types.{in_type}
 use Rattle.wordset.proofs.BitLaws.{shl_one}
 use Rattle.truth.specs.Truths.{nexts, place_of}
 use Rattle.truth.proofs.Adding.{adding-end, adding-low, adding-on, adding-start}
-use Rattle.truth.proofs.Sifting.{less-lt}
 use Rattle.truth.proofs.TruthLaws.{place-small}
 use Rattle.truth.proofs.add_modes.Goals as goal
 
@@ -27,15 +26,3 @@ returns c = adding-end c.loop-rest.invariant c.loop-rest-test.false
 
 pub loop-rest-init : goal.loop-rest-init
 loop-rest-init c = adding-start c.arg-rest.ensures (omega arith)
-
-pub overflow_cast-m : goal.overflow_cast-m
-overflow_cast-m c = (let l = adding-low c.loop-rest.invariant c.loop-rest-test.true in omega arith)
-
-pub overflow_shl-m : goal.overflow_shl-m
-overflow_shl-m c = (let l = adding-low c.loop-rest.invariant c.loop-rest-test.true in omega arith)
-
-pub overflow_sub-rest : goal.overflow_sub-rest
-overflow_sub-rest c = (let n = c.loop-rest-test.true in omega arith)
-
-pub loop-rest-smaller : goal.loop-rest-smaller
-loop-rest-smaller c = less-lt _ c.loop-rest-test.true

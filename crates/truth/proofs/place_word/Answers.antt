@@ -12,9 +12,9 @@ unfolding bit
 returns-then-idx-place-eq1 c =
     high-full _ _ c.if-place-lt6.false (sym (test_bit c.args.idx (c.args.place - 6)) ∙ eq-eqb _ _ c.if-idx-place-eq1.true)
 
-pub returns : goal.returns
+pub returns-else-idx-place-eq1 : goal.returns-else-idx-place-eq1
 unfolding bit
-returns c =
+returns-else-idx-place-eq1 c =
     high-none _ _ c.if-place-lt6.false (sym (test_bit c.args.idx (c.args.place - 6)) ∙ ne_eqb _ _ c.if-idx-place-eq1.false)
 
 pub returns-then-place-lt6 : goal.returns-then-place-lt6

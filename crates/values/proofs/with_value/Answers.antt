@@ -12,10 +12,10 @@ make-requires c =
     let h = c.requires.1.1 in
     (c.requires.0, (omega arith, (omega arith, (omega arith, (omega arith, c-lit {k = c.args.k} (omega arith))))))
 
-pub returns-in_default : goal.returns-in_default
-returns-in_default c =
-    kind-full c.requires.0 c.requires.1.0 c.make.ensures c.in_default.is
+pub returns-in-Some : goal.returns-in-Some
+returns-in-Some c =
+    kind-value c.requires.0 _ _ c.if-kind-ne4.false c.make.ensures c.in-Some.is
 
-pub returns : goal.returns
-returns c =
-    kind-value c.requires.0 _ _ c.if-kind-ne4.false c.make.ensures c.in-At.is
+pub returns-in-None : goal.returns-in-None
+returns-in-None c =
+    kind-full c.requires.0 c.requires.1.0 c.make.ensures c.in-None.is

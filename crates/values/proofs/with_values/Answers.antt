@@ -1,9 +1,6 @@
 use native.Mathlib.Omega.{arith}
-use Rattle.values.proofs.TableLaws.{sofar-none, sofar-ready, sofar-room, sofar-next, sofar-all}
+use Rattle.values.proofs.TableLaws.{sofar-ready, sofar-room, sofar-next}
 use Rattle.values.proofs.with_values.Goals as goal
-
-pub loop-k-init : goal.loop-k-init
-loop-k-init c = sofar-none c.requires.0
 
 pub with_value-m-requires : goal.with_value-m-requires
 with_value-m-requires c =
@@ -15,9 +12,3 @@ with_value-m-requires c =
 pub loop-k-preserved : goal.loop-k-preserved
 loop-k-preserved c =
     sofar-next c.requires.0 c.loop-k.invariant c.loop-k-test.true c.with_value-m.auto.tab c.with_value-m.ensures
-
-pub shape_of-tab : goal.shape_of-tab
-shape_of-tab c = c.loop-k.invariant.same
-
-pub returns : goal.returns
-returns c = sofar-all c.requires.0 c.loop-k.invariant c.loop-k-test.false

@@ -1,11 +1,6 @@
 -- `with_values` meets its contract: before each turn the values among the symbols passed were put (TableLaws). Assumes nothing.
-use Prim.Native.Nat.{◌-◌}
-use lib.ListN.{length}
 use Rattle.values.proofs.TableLaws.{Sofar}
 use Rattle.values.proofs.with_values.Given as goal
 
 abbrev pub invariant-loop-k : goal.invariant-loop-k
 invariant-loop-k l = Sofar l.kinds l.initial.tab l.n l.tab l.m l.k
-
-abbrev pub decreases-loop-k : goal.decreases-loop-k
-decreases-loop-k l = length l.kinds - l.k

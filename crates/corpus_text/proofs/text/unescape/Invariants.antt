@@ -1,9 +1,6 @@
--- `corpus::text::unescape` meets its contract. Assumes nothing.
-use Rattle.std.proofs.Common.{◌≡◌, ◌-◌, length}
+-- What is left to read gets shorter.
+use Rattle.std.proofs.Common.{length}
 use Rattle.corpus_text.proofs.text.unescape.Given as goal
 
-abbrev pub invariant-loop-i : goal.invariant-loop-i
-invariant-loop-i l = length l.store ≡ length l.initial.store
-
-abbrev pub decreases-loop-i : goal.decreases-loop-i
-decreases-loop-i l = length l.text - l.i
+abbrev pub decreases-loop-rest : goal.decreases-loop-rest
+decreases-loop-rest g l = length l.rest

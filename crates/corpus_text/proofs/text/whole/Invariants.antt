@@ -1,9 +1,9 @@
--- `corpus::text::whole` meets its contract. Assumes nothing.
-use Rattle.std.proofs.Common.{◌≡◌, ◌-◌, length}
+-- What is left to read gets shorter, and is no longer than the text.
+use Rattle.std.proofs.Common.{◌≤◌, length}
 use Rattle.corpus_text.proofs.text.whole.Given as goal
 
-abbrev pub invariant-loop-i : goal.invariant-loop-i
-invariant-loop-i l = l.n ≡ length l.text
+abbrev pub invariant-loop-behind : goal.invariant-loop-behind
+invariant-loop-behind l = length l.rest ≤ length l.text
 
-abbrev pub decreases-loop-i : goal.decreases-loop-i
-decreases-loop-i l = length l.text - l.i
+abbrev pub decreases-loop-behind : goal.decreases-loop-behind
+decreases-loop-behind l = length l.rest

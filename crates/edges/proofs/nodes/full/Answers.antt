@@ -2,14 +2,9 @@
 use Prim.Native.Nat.{ℕ, ◌-◌}
 use mathlib.Core.Path.{ap, ◌∙◌}
 use native.Mathlib.Omega.{arith}
-use lib.Pow.{pow_pos}
 use Rattle.wordset.proofs.BitLaws.{shl_one}
 use Rattle.edges.proofs.NodeLaws.{full_is}
 use Rattle.edges.proofs.nodes.full.Goals as goal
-
-pub overflow_sub-result : goal.overflow_sub-result
-overflow_sub-result c =
-    let h = c.requires in let e = shl_one c.args.n (omega arith) in let p = pow_pos c.args.n in omega arith
 
 pub returns : goal.returns
 returns c =

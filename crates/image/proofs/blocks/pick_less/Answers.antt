@@ -1,5 +1,5 @@
 use Rattle.wordset.proofs.AnswersLaws.{answers-word, and-answers, minus-answers, word-answers}
-use Rattle.wordset.proofs.Filling.{begins, ends, goes}
+use Rattle.wordset.proofs.Filling.{begins, goes}
 use Rattle.truth.proofs.BlockLaws.{block-word}
 use Rattle.image.proofs.blocks.pick_less.Goals as goal
 
@@ -7,9 +7,6 @@ pub loop-k-preserved : goal.loop-k-preserved
 loop-k-preserved c =
     let p = minus-answers (word-answers _ _ (c.type_inv.src _).fits) (word-answers _ _ (c.type_inv.u _).fits) in
     goes _ c.loop-k.invariant c.loop-k-test.true (answers-word (and-answers p (block-word _ _ _ _ (c.type_inv.tw _).fits)))
-
-pub returns : goal.returns
-returns c = ends c.loop-k.invariant c.loop-k-test.false
 
 pub loop-k-init : goal.loop-k-init
 loop-k-init c = begins

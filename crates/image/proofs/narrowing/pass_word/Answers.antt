@@ -1,8 +1,9 @@
 -- `pass_word` meets its contract. Assumes nothing.
 use mathlib.Core.Path.{◌≡◌, sym, ap}
-use mathlib.Core.Bool.{Bool, true, false}
+use mathlib.Core.Bool.{Bool, true, false, not}
 use mathlib.Core.List.{List}
 use Prim.Native.Nat.{ℕ}
+use borrow.Author.Tests.{eq-eqb, ne_eqb}
 use Rattle.truth.proofs.BlockLaws.{word-as}
 use Rattle.conditions.specs.Entries.{in_some}
 use Rattle.image.specs.Narrowing.{not_all, passing}
@@ -16,8 +17,8 @@ having : (w : ℕ) (cw : List ℕ) (r u : ℕ) {lack : Bool} → lack ≡ false 
 unfolding passing
 having w cw r u e = sym (ap (λ b. passing w cw r b u) e)
 
-pub returns-then-lack : goal.returns-then-lack
-returns-then-lack c = word-as (λ u. lacking _ _ _ u c.if-lack.true) c.lack_word.ensures
+pub returns-then-this-ne0 : goal.returns-then-this-ne0
+returns-then-this-ne0 g c = word-as (λ u. lacking _ _ _ u (ap not (ne_eqb _ 0 c.if-this-ne0.true))) c.lack_word.ensures
 
 pub returns : goal.returns
-returns c = word-as (λ u. having _ _ _ u c.if-lack.false) c.some_word.ensures
+returns g c = word-as (λ u. having _ _ _ u (ap not (eq-eqb _ 0 c.if-this-ne0.false))) c.some_word.ensures

@@ -2,10 +2,10 @@
 use Rattle.lockgraph_c.proofs.ToldLaws.{book-done, book-refused}
 use Rattle.lockgraph_c.proofs.books.lockgraph_book_within.Goals as goal
 
-pub returns-in-Refused : goal.returns-in-Refused
-returns-in-Refused c =
-    book-refused c.book_within.ensures c.in-Refused.is
+pub returns-in-Err : goal.returns-in-Err
+returns-in-Err c =
+    book-refused c.book_within.ensures c.in-Err.is c.number.ensures
 
-pub returns-in-Done : goal.returns-in-Done
-returns-in-Done c =
-    book-done c.book_within.ensures c.in-Done.is
+pub returns-in-Ok : goal.returns-in-Ok
+returns-in-Ok c =
+    book-done c.book_within.ensures c.in-Ok.is

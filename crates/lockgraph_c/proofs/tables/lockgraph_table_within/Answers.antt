@@ -2,10 +2,10 @@
 use Rattle.lockgraph_c.proofs.ToldLaws.{table_done, table-refused}
 use Rattle.lockgraph_c.proofs.tables.lockgraph_table_within.Goals as goal
 
-pub returns-in-Refused : goal.returns-in-Refused
-returns-in-Refused c =
-    table-refused c.table_within.ensures.table_is c.table_within.ensures.table_demand2 c.table_within.ensures.table_demand3 c.in-Refused.is
+pub returns-in-Err : goal.returns-in-Err
+returns-in-Err c =
+    table-refused c.table_within.ensures.table_is c.table_within.ensures.table_demand2 c.table_within.ensures.table_demand3 c.in-Err.is c.number.ensures
 
-pub returns-in-Done : goal.returns-in-Done
-returns-in-Done c =
-    table_done c.table_within.ensures.table_is c.table_within.ensures.table_demand2 c.table_within.ensures.table_demand3 c.in-Done.is c.written_last-last.ensures
+pub returns-in-Ok : goal.returns-in-Ok
+returns-in-Ok c =
+    table_done c.table_within.ensures.table_is c.table_within.ensures.table_demand2 c.table_within.ensures.table_demand3 c.in-Ok.is c.written_last-last.ensures

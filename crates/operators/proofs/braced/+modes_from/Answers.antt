@@ -1,26 +1,18 @@
-use borrow.Enum.Refused.{opened}
-use mathlib.Core.Path.{refl}
-use native.Mathlib.Omega.{arith}
-use Rattle.token.proofs.Tokens.{token-past}
-use Rattle.operators.proofs.ModeLaws.{mode-behind, modes-wrong, modes-none, modes-last, modes-more}
+use Rattle.operators.proofs.ModeLaws.{modes-wrong, modes-none, modes-last, modes-more}
 use Rattle.operators.proofs.braced.+modes_from.Goals as goal
 
-pub returns-in_default : goal.returns-in_default
-returns-in_default t c =
-    modes-wrong _ _ _ _ _ _ c.next_two-two.ensures.first-is _ c.one_mode.ensures c.in_default.is
-
-pub modes_from-requires : goal.modes_from-requires
-modes_from-requires t c =
-    omega (arith, c.requires, c.next_two-two.ensures.first-is.past, c.next_two-two.ensures.second_is.inside, token-past c.next_two-two.ensures.second_is c.in-Comma.is refl, mode-behind _ _ _ _ 0 _ c.next_two-two.ensures.first-is _ c.one_mode.ensures _ _ _ c.in-Set.is _ c.next_two-two.ensures.second_is)
+pub returns-in_err-found : goal.returns-in_err-found
+returns-in_err-found t c =
+    rw c.from_residual.ensures (modes-wrong _ _ _ _ _ c.next_two.ensures.first-is c.one_mode.ensures c.in_err-found.was)
 
 pub returns-in-Comma : goal.returns-in-Comma
 returns-in-Comma t c =
-    modes-more _ _ _ _ _ _ c.next_two-two.ensures.first-is _ c.one_mode.ensures _ _ _ c.in-Set.is _ c.next_two-two.ensures.second_is _ _ c.in-Comma.is c.lower.ensures c.modes_from.ensures
+    modes-more _ _ _ _ _ c.next_two.ensures.first-is c.one_mode.ensures c.in_ok-found.was c.next_two.ensures.second_is c.in-Comma.is c.lower-low.ensures c.modes_from.ensures
 
 pub returns-in-CloseBrace : goal.returns-in-CloseBrace
 returns-in-CloseBrace t c =
-    modes-last _ _ _ _ _ _ c.next_two-two.ensures.first-is _ c.one_mode.ensures _ _ _ c.in-Set.is _ c.next_two-two.ensures.second_is _ c.in-CloseBrace.is c.lower-in-CloseBrace.ensures
+    modes-last _ _ _ _ _ c.next_two.ensures.first-is c.one_mode.ensures c.in_ok-found.was c.next_two.ensures.second_is c.in-CloseBrace.is c.lower-low.ensures
 
-pub returns-in_default-k : goal.returns-in_default-k
-returns-in_default-k t c =
-    modes-none _ _ _ _ _ _ c.next_two-two.ensures.first-is _ c.one_mode.ensures _ _ _ c.in-Set.is _ c.next_two-two.ensures.second_is (opened c.in_default-k.in_default-k-own.keys3)
+pub returns-in_default : goal.returns-in_default
+returns-in_default t c =
+    modes-none _ _ _ _ _ c.next_two.ensures.first-is c.one_mode.ensures c.in_ok-found.was c.next_two.ensures.second_is c.in_default.not-Comma c.in_default.not-CloseBrace

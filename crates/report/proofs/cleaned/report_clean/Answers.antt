@@ -7,26 +7,26 @@ use Rattle.report.proofs.cleaned.report_clean.Goals as goal
 
 pub slice_bounds-store-end : goal.slice_bounds-store-end
 slice_bounds-store-end c =
-    let w = text-within c.clean_within.ensures refl c.in-Done.is in
+    let w = text-within c.clean_within.ensures refl c.in-Ok.is in
     let k = c.clean_within.auto.store in
     omega arith
 
 pub slice_bounds-write_text-end : goal.slice_bounds-write_text-end
 slice_bounds-write_text-end c =
-    let w = text-within c.clean_within.ensures refl c.in-Done.is in
+    let w = text-within c.clean_within.ensures refl c.in-Ok.is in
     let k = c.clean_within.auto.store in
     sym (length-take-le _ _ (omega arith))
 
 pub write_text-requires : goal.write_text-requires
 write_text-requires c =
-    text-whole c.clean_within.ensures refl c.in-Done.is
+    text-whole c.clean_within.ensures refl c.in-Ok.is
 
-pub slice_bounds-write_text-end-in-Refused : goal.slice_bounds-write_text-end-in-Refused
-slice_bounds-write_text-end-in-Refused c =
+pub slice_bounds-write_text-end-in-Err : goal.slice_bounds-write_text-end-in-Err
+slice_bounds-write_text-end-in-Err c =
     let r = c.put_refused-n.ensures.upper_bound in
     let k = c.put_refused-n.auto.out in
     sym (length-take-le _ _ (omega arith))
 
-pub write_text-requires-in-Refused : goal.write_text-requires-in-Refused
-write_text-requires-in-Refused c =
-    refused-whole c.clean_within.ensures refl c.in-Refused.is c.put_refused-n.ensures.put
+pub write_text-requires-in-Err : goal.write_text-requires-in-Err
+write_text-requires-in-Err c =
+    refused-whole c.clean_within.ensures refl c.in-Err.is c.number.ensures c.put_refused-n.ensures.put

@@ -1,11 +1,8 @@
--- `entries::some_not_one` meets its contract: before each turn each node passed holds one of the values. Assumes nothing.
-use Prim.Native.Nat.{ℕ, ◌≤◌, ◌<◌, ◌-◌}
+-- Before each turn each node passed holds one of the values.
+use Prim.Native.Nat.{ℕ, ◌<◌}
 use mathlib.Core.Path.{◌≡◌}
 use Rattle.snapshot.specs.Read.{held_count}
 use Rattle.snapshot.proofs.entries.some_not_one.Given as goal
 
 abbrev pub invariant-loop-i : goal.invariant-loop-i
-invariant-loop-i l = (l.i ≤ l.n) × ((j : ℕ) → j < l.i → held_count l.kinds l.out j ≡ 1)
-
-abbrev pub decreases-loop-i : goal.decreases-loop-i
-decreases-loop-i l = l.n - l.i
+invariant-loop-i l = (j : ℕ) → j < l.i → held_count l.kinds l.out j ≡ 1

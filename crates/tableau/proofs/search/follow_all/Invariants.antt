@@ -1,5 +1,4 @@
--- `follow_all` meets its contract: after j turns dst has those that pass for the first j needs. Assumes nothing.
-use Prim.Native.Nat.{◌-◌}
+-- `follow_all` meets its contract: after some turns dst has those that pass for the needs of those turns. Assumes nothing.
 use lib.ListN.{length, get_or}
 use Rattle.ctl.specs.Lists.{imp}
 use Rattle.wordset.specs.Words.{member}
@@ -7,8 +6,5 @@ use Rattle.tableau.specs.Families.{ex_along, has_next, ranked}
 use Rattle.tableau.proofs.NeedFits.{Followed}
 use Rattle.tableau.proofs.search.follow_all.Given as goal
 
-abbrev pub invariant-loop-j : goal.invariant-loop-j
-invariant-loop-j l = Followed (λ k t. imp (ex_along l.a (get_or l.ns k 0)) (has_next l.w l.tw l.cw (member (ranked l.w l.src l.copy)) (get_or l.ns k 0) t)) l.w (length l.ns) l.initial.dst l.initial.v l.initial.rest l.dst l.v l.rest l.j
-
-abbrev pub decreases-loop-j : goal.decreases-loop-j
-decreases-loop-j l = length l.ns - l.j
+abbrev pub invariant-loop-x : goal.invariant-loop-x
+invariant-loop-x l = Followed (λ k t. imp (ex_along l.a (get_or l.words.ns.now k 0)) (has_next l.words.w l.words.tw.now l.words.cw.now (member (ranked l.words.w l.src l.copy)) (get_or l.words.ns.now k 0) t)) l.words.w (length l.words.ns.now) l.initial.dst l.initial.v l.initial.rest l.dst l.v l.rest l.x-index

@@ -5,8 +5,8 @@ use Rattle.wordset.specs.Words.{member}
 use Rattle.tableau.proofs.Ranking.{Searching}
 use Rattle.tableau.proofs.search.search.Given as goal
 
-abbrev pub invariant-loop-w : goal.invariant-loop-w
-invariant-loop-w l = Searching l.w l.tw l.cw l.ns l.x l.src l.initial.copy l.initial.todo l.initial.v l.initial.rest l.copy l.todo l.v l.rest
+abbrev pub invariant-loop-x : goal.invariant-loop-x
+invariant-loop-x l = Searching l.words.w l.words.tw.now l.words.cw.now l.words.ns.now l.x l.src l.initial.copy l.initial.todo l.initial.v l.initial.rest l.copy l.todo l.v l.rest
 
-abbrev pub decreases-loop-w : goal.decreases-loop-w
-decreases-loop-w l = count_below (l.w * 64) (member l.copy)
+abbrev pub decreases-loop-x : goal.decreases-loop-x
+decreases-loop-x l = count_below (l.words.w * 64) (member l.copy)

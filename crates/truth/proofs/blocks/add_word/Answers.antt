@@ -11,7 +11,7 @@ returns-then-every c P a =
     let s = c.args in
     word-as (λ t. ap (λ n. added n (P t) (in_type t s.place)) (sym c.if-every.true)) (and-answers a c.place_word-y.ensures)
 
-pub returns : goal.returns
-returns c P a =
+pub returns-else-every : goal.returns-else-every
+returns-else-every c P a =
     let s = c.args in
     word-as (λ t. ap (λ n. added n (P t) (in_type t s.place)) (sym c.if-every.false)) (or-answers a c.place_word-y.ensures)

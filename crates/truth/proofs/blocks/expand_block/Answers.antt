@@ -1,10 +1,5 @@
-use Rattle.truth.proofs.BlockLaws.{block_in}
-use Rattle.truth.proofs.Redoing.{earlier, redo-end, redo-on, redo-start, still}
+use Rattle.truth.proofs.Redoing.{earlier, redo-end, redo-on, still}
 use Rattle.truth.proofs.blocks.expand_block.Goals as goal
-
-pub loop-k-init : goal.loop-k-init
-loop-k-init c =
-    (redo-start, block_in _ _ _ c.requires.1, block_in _ _ _ c.requires.2)
 
 pub loop-k-preserved : goal.loop-k-preserved
 loop-k-preserved c =
