@@ -23,7 +23,11 @@ fn book_in<const N: usize>(call: Call, length: u64)
     match lockgraph::book_within(call.limits, call.sheet, store) {
         Err(why) => write_refusal(call.out, why.number(), store),
         Ok(b) => {
-            write_book(call.out, store, (b.namings as usize).saturating_mul(b.words));
+            write_book(
+                call.out,
+                store,
+                (b.namings as usize).saturating_mul(b.words),
+            );
         }
     }
 }

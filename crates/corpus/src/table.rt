@@ -19,7 +19,12 @@ fn is_first(first: &mut [u64], second: &[u64], answer: Result<Tabled, Refusal>) 
 }
 
 // The part handed back has the words promised, both stores have the same ones, and nothing else is written.
-fn as_promised(first: &[u64], second: &[u64], answer: Result<Tabled, Refusal>, words: usize) -> bool {
+fn as_promised(
+    first: &[u64],
+    second: &[u64],
+    answer: Result<Tabled, Refusal>,
+    words: usize,
+) -> bool {
     lockgraph::part(first, second, answer).len() == words
         && same_words(first, second, words)
         && kept(first, words)
