@@ -2,7 +2,7 @@ use mathlib.Core.Path.{◌≡◌, sym, ap, ◌∙◌}
 use Prim.Native.Nat.{◌≤◌}
 use native.Mathlib.Omega.{arith}
 use lib.ListN.{length}
-use Rattle.clean.proofs.LineText.{word_by, word-all, word-goal, summed-start, summed-next, summed-over, summed-all}
+use Rattle.clean.proofs.LineText.{word_by, word-all, word-goal, summed-next, summed-over, summed-all}
 use Rattle.clean.proofs.measure_lines.Goals as goal
 use Rattle.clean.proofs.measure_lines.Goals.{Joined-i-places, then-i-places, else-i-places}
 
@@ -16,36 +16,10 @@ word-long c =
       | else-i-places w ↦ (ap length (word-goal i many w.if-i-places.false) ∙ sym w.word-is, omega arith)
     ]
 
-pub loop-i-init : goal.loop-i-init
-loop-i-init c = summed-start
-
-pub offset_bounds-places-i : goal.offset_bounds-places-i
-offset_bounds-places-i c = omega arith
-
-pub offset_bounds-lens-place : goal.offset_bounds-lens-place
-offset_bounds-lens-place c =
-    omega (arith, c.requires.printable.1 c.loop-i.i c.loop-i-test.true)
-
-pub bounds-lens-place : goal.bounds-lens-place
-bounds-lens-place c =
-    omega (arith, c.requires.printable.1 c.loop-i.i c.loop-i-test.true)
-
-pub overflow_sub-word : goal.overflow_sub-word
-overflow_sub-word c = omega (arith, word-long (goal.at.overflow_sub-word c).Joined-i-places)
-
 pub returns-then-word-long : goal.returns-then-word-long
 returns-then-word-long c =
     let w = word-long (goal.at.returns-then-word-long c).Joined-i-places in
     summed-over c.loop-i.invariant c.requires.printable.0 c.requires.printable.1 c.loop-i-test.true w.0 c.if-word-long.true
-
-pub overflow_add-size : goal.overflow_add-size
-overflow_add-size c = omega (arith, word-long (goal.at.overflow_add-size c).Joined-i-places)
-
-pub overflow_add-size-in-loop-i : goal.overflow_add-size-in-loop-i
-overflow_add-size-in-loop-i c = omega (arith, word-long (goal.at.overflow_add-size-in-loop-i c).Joined-i-places)
-
-pub overflow_add-size-in-loop-i-2 : goal.overflow_add-size-in-loop-i-2
-overflow_add-size-in-loop-i-2 c = omega (arith, word-long (goal.at.overflow_add-size-in-loop-i-2 c).Joined-i-places)
 
 pub loop-i-preserved : goal.loop-i-preserved
 loop-i-preserved c =
