@@ -75,13 +75,6 @@ module _ {ms ln : List ℕ} {w : ℕ} {tw cw ns : List ℕ} (r : Ready ms ln w t
     pub right-block : right_w x * w + w ≤ length tw
     right-block = block (right_w x) (let e = until-right in let h = k.inside in let o = (r.table.operands i h (let g = k.low in omega arith)).1 in omega arith)
 
--- whether a need is an EX over one of the modes a
-pub along-no : (a x g : ℕ) → g ≡ tag_w x → (g ≡ 6 → ⊥) → false ≡ ex_along a x
-along-no a x g e f = sym (ap (λ b. b && has_mode a (mode_w x)) (ne_eqb (tag_w x) 6 (λ q. f (e ∙ q))))
-
-pub along-yes : (a x g m : ℕ) → g ≡ tag_w x → g ≡ 6 → m ≡ mode_w x → has_mode a m ≡ ex_along a x
-along-yes a x g m e f q = ap (has_mode a) q ∙ sym (ap (λ b. b && has_mode a (mode_w x)) (eq-eqb (tag_w x) 6 (sym e ∙ f)))
-
 -- a need that is none of these takes nothing away
 pub follow-off : (a x : ℕ) (b : Bool) → b ≡ ex_along a x → b ≡ false → (d h : Bool) → d ≡ (d && imp (ex_along a x) h)
 follow-off a x true e f d h = absurd (true≢false f)
