@@ -19,7 +19,7 @@ pub fn book_within(l: Limits, sheet: &[u8], store: &mut [u64]) -> Result<Booked,
     }
     let namings = u.namings;
     let words = u.words;
-    fitted_book(sheet, u, store);
+    fitted_book(sheet, &u, store);
     Ok(Booked { namings, words })
 }
 

@@ -24,7 +24,7 @@ pub fn list_within(
     let lean = u.width;
     let mut first = [0u64; 64];
     let mut second = [0u64; 64];
-    let c = fitted_table(sheet, u, naming, &mut first, &mut second);
+    let c = fitted_table(sheet, &u, naming, &mut first, &mut second);
     if store.len() < c.left {
         return Err(Refusal::Store);
     }

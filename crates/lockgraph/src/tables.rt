@@ -32,7 +32,7 @@ pub fn table_within(
         return Err(Refusal::Store);
     }
     let words = u.words;
-    let c = fitted_table(sheet, u, naming, first, second);
+    let c = fitted_table(sheet, &u, naming, first, second);
     Ok(Tabled {
         words,
         start: c.start,

@@ -18,7 +18,7 @@ pub fn verdict_within(l: Limits, sheet: &[u8]) -> Result<Verdict, Refusal>
     ensures verdict_demand3 { VerdictDemand3 l sheet.now result }
 {
     let u = frame::set_up(l, sheet)?;
-    Ok(fitted_verdict(sheet, u))
+    Ok(fitted_verdict(sheet, &u))
 }
 
 // The same without limits.
