@@ -94,23 +94,30 @@ get_d_past (x ∷ s) (suc i) h = get_d_past s i (omega arith)
 
 -- ---- line 1
 
-pub starts-long : (line s : List ℕ) → starts line s ≡ true → length line < length s
+-- byte i of the text is line 1's
+abbrev as_line : List ℕ → List ℕ → ℕ → Bool
+as_line line s i = eqb (get_or s i 0) (get_or line i 0)
+
+-- the text begins with line 1, and the byte behind it is a newline
+starts-both : (line s : List ℕ) → starts line s ≡ true → (all_below (length line) (as_line line s) ≡ true) × (get_or s (length line) 0 ≡ 10)
 unfolding starts
+starts-both line s e = let p = and_both (all_below (length line) (as_line line s)) (eqb (get_or s (length line) 0) 10) e in (p.0, eqb-true (get_or s (length line) 0) 10 p.1)
+
+pub starts-long : (line s : List ℕ) → starts line s ≡ true → length line < length s
 starts-long line s e =
     elim (dec_le (length s) (length line)) [
-      | yes h ↦ absurd (let k : get_or s (length line) 0 ≡ 10 = eqb-true (get_or s (length line) 0) 10 (and_both (all_below (length line) (λ i. eqb (get_or s i 0) (get_or line i 0))) (eqb (get_or s (length line) 0) 10) e).1 in omega (arith, get_d_past s (length line) h))
+      | yes h ↦ absurd (let k = (starts-both line s e).1 in omega (arith, get_d_past s (length line) h))
       | no h ↦ omega arith
     ]
 
 -- a text that starts with line 1 has its bytes in front
 starts-front : (line s : List ℕ) → starts line s ≡ true → s ≡ line ++ drop (length line) s
-unfolding starts
 starts-front line s e =
-    let p = and_both (all_below (length line) (λ i. eqb (get_or s i 0) (get_or line i 0))) (eqb (get_or s (length line) 0) 10) e in
     let h = starts-long line s e in
-    let front : take (length line) s ≡ line = ext_get_or 0 (take (length line) s) line (length-take-le (length line) s (omega arith))
-    (λ i l. let l' : i < length line = subst (λ n. i < n) (length-take-le (length line) s (omega arith)) l in
-    get_or-take (length line) s i 0 l' ∙ eqb-true (get_or s i 0) (get_or line i 0) (all-elim (λ i. eqb (get_or s i 0) (get_or line i 0)) (length line) p.0 i l')) in
+    let n = length-take-le (length line) s (omega arith) in
+    let front : take (length line) s ≡ line = ext_get_or 0 (take (length line) s) line n
+    (λ i l. let l' : i < length line = omega (arith, n) in
+    get_or-take (length line) s i 0 l' ∙ eqb-true (get_or s i 0) (get_or line i 0) (all-elim (as_line line s) (length line) (starts-both line s e).0 i l')) in
     sym (take-append-drop (length line) s) ∙ ap (λ x. x ++ drop (length line) s) front
 
 -- what `starts_with` said of line 1
@@ -125,7 +132,7 @@ module _ (line s : List ℕ) (r : Bool) (m : r ≡ starts_with eqb s line) where
   unfolding starts
   begins-so t =
       let e = (starts_is Decides-eqb s line r m).0 t in
-      sym (ap (λ b. b && eqb (get_or s (length line) 0) 10) (all-intro (λ i. eqb (get_or s i 0) (get_or line i 0)) (length line)
+      sym (ap (λ b. b && eqb (get_or s (length line) 0) 10) (all-intro (as_line line s) (length line)
       (λ i h. eq-eqb (get_or s i 0) (get_or line i 0) (ap (λ x. get_or x i 0) e ∙ get_or-append line (drop (length line) s) 0 i h))))
 
 -- the byte behind line 1, 0 where there is none, is compared with the newline
