@@ -10,7 +10,7 @@ use mathlib.Core.List.{List, [], ◌∷◌, ◌++◌}
 use lib.Dec.{eqb, ltb}
 use lib.ListN.{length, get_or, set, take, drop, drop_of_length-le, get_or-append, take-append-drop}
 use lib.Seq.{drop-cons, ext_get_or, get_or-take, length-take-le}
-use borrow.Author.Tests.{ltb-true, ltb-false, eqb-true, eqb-false, eq-eqb, ne_eqb, lt-ltb, le-ltb}
+use borrow.Author.Tests.{ltb-true, ltb-false, eqb-true, eqb-false, eq-eqb, ne_eqb, le-ltb}
 use denote.Ref.{Bor}
 use Rattle.std.specs.Prelude.{Option, Some, None, unwrap_or}
 use Rattle.std.specs.Option.{option_map, option_eq}
@@ -103,8 +103,8 @@ starts-both : (line s : List ℕ) → starts line s ≡ true → (all_below (len
 unfolding starts
 starts-both line s e = let p = and_both (all_below (length line) (as_line line s)) (eqb (get_or s (length line) 0) 10) e in (p.0, eqb-true (get_or s (length line) 0) 10 p.1)
 
-pub starts-long : (line s : List ℕ) → starts line s ≡ true → length line < length s
-starts-long line s e =
+pub starts_long : (line s : List ℕ) → starts line s ≡ true → length line < length s
+starts_long line s e =
     elim (dec_le (length s) (length line)) [
       | yes h ↦ absurd (let k = (starts-both line s e).1 in omega (arith, get_d_past s (length line) h))
       | no h ↦ omega arith
@@ -113,7 +113,7 @@ starts-long line s e =
 -- a text that starts with line 1 has its bytes in front
 starts-front : (line s : List ℕ) → starts line s ≡ true → s ≡ line ++ drop (length line) s
 starts-front line s e =
-    let h = starts-long line s e in
+    let h = starts_long line s e in
     let n = length-take-le (length line) s (omega arith) in
     let front : take (length line) s ≡ line = ext_get_or 0 (take (length line) s) line n
     (λ i l. let l' : i < length line = omega (arith, n) in
@@ -142,35 +142,18 @@ newline-at (Some b) t g e f = ap₂ eqb e f
 
 -- ---- the whole text
 
-module _ (line : List ℕ) (m : ℕ) (s out : List ℕ) where
-  pub long-count : 1024 < length s → 0 ≡ line_count line m s out
+-- what a text of 1,024 bytes at most that begins with line 1 gives
+module _ (line : List ℕ) (m : ℕ) (s out : List ℕ) (h : length s ≤ 1024) (e : starts line s ≡ true) (r : Ran) (f : ran line m s out ≡ r) where
+  pub ran-count : (n : ℕ) → n ≡ ended r.state → n ≡ line_count line m s out
   unfolding line_count
-  long-count h = simp (lt-ltb 1024 (length s) h)
+  ran-count n g = g ∙ simp (le-ltb 1024 (length s) h, e, f)
 
-  pub long-store : 1024 < length s → out ≡ line_store line m s out
+  pub ran_store : r.store ≡ line_store line m s out
   unfolding line_store
-  long-store h = simp (lt-ltb 1024 (length s) h)
+  ran_store = simp (le-ltb 1024 (length s) h, e, f)
 
-  module _ (h : length s ≤ 1024) where
-    pub other-count : starts line s ≡ false → 0 ≡ line_count line m s out
-    unfolding line_count
-    other-count e = simp (le-ltb 1024 (length s) h, e)
-
-    pub other-store : starts line s ≡ false → out ≡ line_store line m s out
-    unfolding line_store
-    other-store e = simp (le-ltb 1024 (length s) h, e)
-
-    module _ (e : starts line s ≡ true) (r : Ran) (f : ran line m s out ≡ r) where
-      pub ran-count : (n : ℕ) → n ≡ ended r.state → n ≡ line_count line m s out
-      unfolding line_count
-      ran-count n g = g ∙ simp (le-ltb 1024 (length s) h, e, f)
-
-      pub ran_store : r.store ≡ line_store line m s out
-      unfolding line_store
-      ran_store = simp (le-ltb 1024 (length s) h, e, f)
-
-pub ended-few : (st : State) → Inside st → ended st ≤ 16
-ended-few st h = go (eqb st.digits 0) (eqb st.symbol 0)
+pub ended_few : (st : State) → Inside st → ended st ≤ 16
+ended_few st h = go (eqb st.digits 0) (eqb st.symbol 0)
   where
     go : (a b : Bool) → cond a (cond b st.node 0) 0 ≤ 16
     go true true = h.node

@@ -145,6 +145,7 @@ fn ended(st: State) -> usize
 
 // The text's node count, 0 for text that is no snapshot's, with the entries in the store.
 // Kept as a number: a text of line 1 alone has the count 0 too, and is as wrong; and `line_count` is what the theorems of other crates name.
+#[tactic(auto, using(crate::proofs::ReadLaws::starts_long, crate::proofs::ReadLaws::ended_few), unfolding(crate::specs::Lines::line_count, crate::specs::Lines::line_store))]
 pub fn lines(line: &[u8], m: usize, s: &[u8], out: &mut [u8]) -> usize
     requires { m ≤ 8 }
     ensures { (result ≡ line_count line.now m s.now out.old)
