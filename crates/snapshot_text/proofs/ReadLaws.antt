@@ -4,15 +4,22 @@ use native.Mathlib.Omega.{arith}
 use native.Mathlib.Numerals.{add-one}
 use native.Mathlib.Decide.{dec_le}
 use mathlib.Core.Path.{◌≡◌, refl, sym, ap, ap₂, ◌∙◌, subst}
+use mathlib.Core.Logic.{inl, inr}
 use mathlib.Core.Bool.{Bool, true, false, cond, ◌&&◌}
-use mathlib.Core.List.{List, [], ◌∷◌}
+use mathlib.Core.List.{List, [], ◌∷◌, ◌++◌}
 use lib.Dec.{eqb, ltb}
-use lib.ListN.{length, get_or, set, drop, length-set, drop_of_length-le}
-use lib.Seq.{drop-cons}
-use borrow.Author.Tests.{ltb-true, ltb-false, eqb-true, eqb-false, eq-eqb, ne_eqb, lt-ltb, le-ltb}
+use lib.ListN.{length, get_or, set, take, drop, drop_of_length-le, get_or-append, take-append-drop}
+use lib.Seq.{drop-cons, ext_get_or, get_or-take, length-take-le}
+use borrow.Author.Tests.{ltb-true, ltb-false, eqb-true, eqb-false, eq-eqb, ne_eqb, le-ltb}
+use denote.Ref.{Bor}
+use Rattle.std.specs.Prelude.{Option, Some, None, unwrap_or}
+use Rattle.std.specs.Option.{option_map, option_eq}
+use Rattle.std.specs.List.{starts_with}
+use Rattle.std.proofs.lemmas.Bool.Decides.{Decides-eqb}
+use Rattle.std.proofs.lemmas.Slice.Eq.{starts_is}
 use Rattle.wordset.specs.Below.{all_below}
-use Rattle.wordset.proofs.BelowLaws.{all-intro, all-false}
-use Rattle.ctl.proofs.BoolLaws.{and_both}
+use Rattle.wordset.proofs.BelowLaws.{all-intro, all-elim}
+use Rattle.ctl.proofs.BoolLaws.{and_both, decide}
 use Rattle.snapshot_text.specs.declared.State.{State}
 use Rattle.snapshot_text.specs.Lines.{state_of, start_state, bad_state, space_step, newline_step, digit_step, byte_step, Inside, Ran, run, starts, ran, ended, line_count, line_store}
 
@@ -59,32 +66,24 @@ step_other m st b e f = simp (ne_eqb b 32 e, ne_eqb b 10 f)
 
 -- ---- the loop over the bytes
 
-pub record Running (m : ℕ) (s : List ℕ) (at : ℕ) (out₀ : List ℕ) (out : List ℕ) (st : State) (i : ℕ) : Type 0 where
-  pub within : i ≤ length s
+-- The i first bytes led from the start to the state and the store
+pub record Running (m : ℕ) (s : List ℕ) (out₀ : List ℕ) (out : List ℕ) (st : State) (i : ℕ) : Type 0 where
   pub inside : Inside st
-  pub long : length out ≡ length out₀
-  pub same : run m start_state out₀ (drop at s) ≡ run m st out (drop i s)
+  pub same : run m start_state out₀ s ≡ run m st out (drop i s)
 
-module _ {m : ℕ} {s : List ℕ} {at : ℕ} {out₀ : List ℕ} where
-  pub runs-begin : (st : State) → at ≤ length s → st ≡ start_state → Running m s at out₀ out₀ st at
-  runs-begin st h e = record {
-    within = h;
-    inside = subst Inside (sym e) (fresh-inside 0 0 (omega arith) (omega arith));
-    long = refl;
-    same = ap (λ t. run m t out₀ (drop at s)) (sym e);
-  }
+module _ {m : ℕ} {s : List ℕ} {out₀ : List ℕ} where
+  pub runs-begin : Running m s out₀ out₀ start_state 0
+  runs-begin = record { inside = fresh-inside 0 0 (omega arith) (omega arith); same = refl }
 
-  pub runs_on : {out : List ℕ} {st : State} {i : ℕ} (out' : List ℕ) (st' : State) → m ≤ 8 → Running m s at out₀ out st i → i < length s
-      → out' ≡ set out (st.node * 8 + st.symbol) st.value → st' ≡ byte_step m st (get_or s i 0) → Running m s at out₀ out' st' (i + 1)
+  pub runs_on : {out : List ℕ} {st : State} {i : ℕ} (out' : List ℕ) (st' : State) → m ≤ 8 → Running m s out₀ out st i → i < length s
+      → out' ≡ set out (st.node * 8 + st.symbol) st.value → st' ≡ byte_step m st (get_or s i 0) → Running m s out₀ out' st' (i + 1)
   unfolding run
   runs_on {out} {st} {i} out' st' hm r h e f = record {
-    within = omega arith;
     inside = subst Inside (sym f) (step-inside m st (get_or s i 0) hm r.inside);
-    long = ap length e ∙ length-set out (st.node * 8 + st.symbol) st.value ∙ r.long;
     same = r.same ∙ ap (run m st out) (drop-cons s i 0 h) ∙ ap₂ (λ o t. run m t o (drop (suc i) s)) (sym e) (sym f) ∙ ap (λ k. run m st' out' (drop k s)) (sym (add-one i));
   }
 
-  pub runs-end : {out : List ℕ} {st : State} {i : ℕ} → Running m s at out₀ out st i → length s ≤ i → run m start_state out₀ (drop at s) ≡ record { state = st; store = out }
+  pub runs-end : {out : List ℕ} {st : State} {i : ℕ} → Running m s out₀ out st i → length s ≤ i → run m start_state out₀ s ≡ record { state = st; store = out }
   unfolding run
   runs-end {out} {st} {i} r h = r.same ∙ ap (run m st out) (drop_of_length-le s h)
 
@@ -95,59 +94,68 @@ get_d_past (x ∷ s) (suc i) h = get_d_past s i (omega arith)
 
 -- ---- line 1
 
-pub starts-not : (line s : List ℕ) (i : ℕ) → i < length line → (get_or s i 0 ≡ get_or line i 0 → ⊥) → false ≡ starts line s
-unfolding starts
-starts-not line s i h f =
-    sym (ap (λ b. b && eqb (get_or s (length line) 0) 10) (all-false (λ i. eqb (get_or s i 0) (get_or line i 0)) (length line) i h (ne_eqb (get_or s i 0) (get_or line i 0) f)))
+-- byte i of the text is line 1's
+abbrev as_line : List ℕ → List ℕ → ℕ → Bool
+as_line line s i = eqb (get_or s i 0) (get_or line i 0)
 
-pub starts-all : (line s : List ℕ) (i : ℕ) → i ≡ length line → ((k : ℕ) → k < i → get_or s k 0 ≡ get_or line k 0) → eqb (get_or s i 0) 10 ≡ starts line s
+-- the text begins with line 1, and the byte behind it is a newline
+starts-both : (line s : List ℕ) → starts line s ≡ true → (all_below (length line) (as_line line s) ≡ true) × (get_or s (length line) 0 ≡ 10)
 unfolding starts
-starts-all line s i e f =
-    ap (λ i. eqb (get_or s i 0) 10) e
-    ∙ sym (ap (λ b. b && eqb (get_or s (length line) 0) 10) (all-intro (λ i. eqb (get_or s i 0) (get_or line i 0)) (length line) (λ k l. eq-eqb (get_or s k 0) (get_or line k 0) (f k (omega arith)))))
+starts-both line s e = let p = and_both (all_below (length line) (as_line line s)) (eqb (get_or s (length line) 0) 10) e in (p.0, eqb-true (get_or s (length line) 0) 10 p.1)
 
-pub starts-long : (line s : List ℕ) → starts line s ≡ true → length line < length s
-unfolding starts
-starts-long line s e =
+pub starts_long : (line s : List ℕ) → starts line s ≡ true → length line < length s
+starts_long line s e =
     elim (dec_le (length s) (length line)) [
-      | yes h ↦ absurd (let k : get_or s (length line) 0 ≡ 10 = eqb-true (get_or s (length line) 0) 10 (and_both (all_below (length line) (λ i. eqb (get_or s i 0) (get_or line i 0))) (eqb (get_or s (length line) 0) 10) e).1 in omega (arith, get_d_past s (length line) h))
+      | yes h ↦ absurd (let k = (starts-both line s e).1 in omega (arith, get_d_past s (length line) h))
       | no h ↦ omega arith
     ]
 
+-- a text that starts with line 1 has its bytes in front
+starts-front : (line s : List ℕ) → starts line s ≡ true → s ≡ line ++ drop (length line) s
+starts-front line s e =
+    let h = starts_long line s e in
+    let n = length-take-le (length line) s (omega arith) in
+    let front : take (length line) s ≡ line = ext_get_or 0 (take (length line) s) line n
+    (λ i l. let l' : i < length line = omega (arith, n) in
+    get_or-take (length line) s i 0 l' ∙ eqb-true (get_or s i 0) (get_or line i 0) (all-elim (as_line line s) (length line) (starts-both line s e).0 i l')) in
+    sym (take-append-drop (length line) s) ∙ ap (λ x. x ++ drop (length line) s) front
+
+-- what `starts_with` said of line 1
+module _ (line s : List ℕ) (r : Bool) (m : r ≡ starts_with eqb s line) where
+  pub begins-not : r ≡ false → r ≡ starts line s
+  begins-not f = elim (decide (starts line s)) [
+    | inl e ↦ (starts_is Decides-eqb s line r m).1 (drop (length line) s) (starts-front line s e) ∙ sym e
+    | inr e ↦ f ∙ sym e
+  ]
+
+  pub begins-so : r ≡ true → eqb (get_or s (length line) 0) 10 ≡ starts line s
+  unfolding starts
+  begins-so t =
+      let e = (starts_is Decides-eqb s line r m).0 t in
+      sym (ap (λ b. b && eqb (get_or s (length line) 0) 10) (all-intro (as_line line s) (length line)
+      (λ i h. eq-eqb (get_or s i 0) (get_or line i 0) (ap (λ x. get_or x i 0) e ∙ get_or-append line (drop (length line) s) 0 i h))))
+
+-- the byte behind line 1, 0 where there is none, is compared with the newline
+pub newline-at : (x : Option (Bor ℕ)) (t : Bor ℕ) (g : ℕ) → unwrap_or (option_map (λ b. b.now) x) 0 ≡ g → t.now ≡ 10 → option_eq (λ a b. eqb a.now b.now) x (Some t) ≡ eqb g 10
+newline-at None t g e f = ap (λ n. eqb n 10) e
+newline-at (Some b) t g e f = ap₂ eqb e f
+
 -- ---- the whole text
 
-module _ (line : List ℕ) (m : ℕ) (s out : List ℕ) where
-  pub long-count : 1024 < length s → 0 ≡ line_count line m s out
+-- what a text of 1,024 bytes at most that begins with line 1 gives
+module _ (line : List ℕ) (m : ℕ) (s out : List ℕ) (h : length s ≤ 1024) (e : starts line s ≡ true) (r : Ran) (f : ran line m s out ≡ r) where
+  pub ran-count : (n : ℕ) → n ≡ ended r.state → n ≡ line_count line m s out
   unfolding line_count
-  long-count h = simp (lt-ltb 1024 (length s) h)
+  ran-count n g = g ∙ simp (le-ltb 1024 (length s) h, e, f)
 
-  pub long-store : 1024 < length s → out ≡ line_store line m s out
+  pub ran_store : r.store ≡ line_store line m s out
   unfolding line_store
-  long-store h = simp (lt-ltb 1024 (length s) h)
+  ran_store = simp (le-ltb 1024 (length s) h, e, f)
 
-  module _ (h : length s ≤ 1024) where
-    pub other-count : starts line s ≡ false → 0 ≡ line_count line m s out
-    unfolding line_count
-    other-count e = simp (le-ltb 1024 (length s) h, e)
-
-    pub other-store : starts line s ≡ false → out ≡ line_store line m s out
-    unfolding line_store
-    other-store e = simp (le-ltb 1024 (length s) h, e)
-
-    module _ (e : starts line s ≡ true) (r : Ran) (f : ran line m s out ≡ r) where
-      pub ran-count : (n : ℕ) → n ≡ ended r.state → n ≡ line_count line m s out
-      unfolding line_count
-      ran-count n g = g ∙ simp (le-ltb 1024 (length s) h, e, f)
-
-      pub ran_store : r.store ≡ line_store line m s out
-      unfolding line_store
-      ran_store = simp (le-ltb 1024 (length s) h, e, f)
-
-pub ended-digits : (st : State) → (st.digits ≡ 0 → ⊥) → 0 ≡ ended st
-ended-digits st h = simp (ne_eqb st.digits 0 h)
-
-pub ended-symbol : (st : State) → st.digits ≡ 0 → (st.symbol ≡ 0 → ⊥) → 0 ≡ ended st
-ended-symbol st h k = simp (eq-eqb st.digits 0 h, ne_eqb st.symbol 0 k)
-
-pub ended-node : (st : State) → st.digits ≡ 0 → st.symbol ≡ 0 → st.node ≡ ended st
-ended-node st h k = simp (eq-eqb st.digits 0 h, eq-eqb st.symbol 0 k)
+pub ended_few : (st : State) → Inside st → ended st ≤ 16
+ended_few st h = go (eqb st.digits 0) (eqb st.symbol 0)
+  where
+    go : (a b : Bool) → cond a (cond b st.node 0) 0 ≤ 16
+    go true true = h.node
+    go true false = omega arith
+    go false b = omega arith

@@ -18,7 +18,7 @@ use Rattle.ctl.proofs.BoolLaws.{decide, and_both}
 use Rattle.snapshot_text.specs.Store.{entry_at, of_store}
 use Rattle.snapshot_text.specs.Lines.{start_state, Ran, run, starts, ran, ended, line_count, line_store}
 use Rattle.snapshot_text.specs.Text.{lines_text, Text, Taken}
-use Rattle.snapshot_text.proofs.ReadLaws.{starts-long, ran-count, ran_store}
+use Rattle.snapshot_text.proofs.ReadLaws.{starts_long, ran-count, ran_store}
 use Rattle.snapshot_text.proofs.Listed.{listed, listed-length, listed_at, listed-past}
 use Rattle.snapshot_text.proofs.Storing.{row_at}
 use Rattle.snapshot_text.proofs.Spelt.{Closed, spelt}
@@ -30,7 +30,7 @@ starts-split : (line s : List ℕ) → starts line s ≡ true → s ≡ line ++ 
 unfolding starts
 starts-split line s e =
     let p = and_both (all_below (length line) (λ i. eqb (get_or s i 0) (get_or line i 0))) (eqb (get_or s (length line) 0) 10) e in
-    let h = starts-long line s e in
+    let h = starts_long line s e in
     let front : take (length line) s ≡ line = ext_get_or 0 (take (length line) s) line (length-take-le (length line) s (omega arith))
     (λ i l. let l' : i < length line = subst (λ n. i < n) (length-take-le (length line) s (omega arith)) l in
     get_or-take (length line) s i 0 l' ∙ eqb-true (get_or s i 0) (get_or line i 0) (all-elim (λ i. eqb (get_or s i 0) (get_or line i 0)) (length line) p.0 i l')) in

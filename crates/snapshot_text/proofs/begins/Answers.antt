@@ -1,22 +1,12 @@
-use mathlib.Core.Path.{sym, ap, ◌∙◌}
-use lib.Dec.{eqb}
-use borrow.Author.Count.{below_more}
 use native.Mathlib.Omega.{arith}
-use Rattle.snapshot_text.proofs.ReadLaws.{starts-not, starts-all}
+use mathlib.Core.Path.{refl, ◌∙◌}
+use Rattle.snapshot_text.proofs.ReadLaws.{begins-not, begins-so, newline-at}
 use Rattle.snapshot_text.proofs.begins.Goals as goal
 
-pub loop-i-init : goal.loop-i-init
-loop-i-init c =
-    (omega arith, λ k h. absurd (omega arith))
+pub returns-then-starts_with : goal.returns-then-starts_with
+returns-then-starts_with c =
+    c.eq.ensures ∙ newline-at c.get.result _ _ (c.get.ensures.lookup.4 (omega arith) 0) refl ∙ begins-so _ _ _ c.starts_with.ensures.value c.if-starts_with.true
 
-pub returns-then-byte-line : goal.returns-then-byte-line
-returns-then-byte-line c =
-    starts-not _ _ c.loop-i.i c.loop-i-test.true (λ e. c.if-byte-line.true (c.byte.ensures ∙ e))
-
-pub loop-i-preserved : goal.loop-i-preserved
-loop-i-preserved c =
-    (omega arith, below_more _ _ c.loop-i.invariant.1 (sym c.byte.ensures ∙ c.if-byte-line.false))
-
-pub returns : goal.returns
-returns c =
-    ap (λ x. eqb x 10) c.byte-2.ensures ∙ starts-all _ _ c.loop-i.i (omega arith) c.loop-i.invariant.1
+pub returns-else-starts_with : goal.returns-else-starts_with
+returns-else-starts_with c =
+    begins-not _ _ _ c.starts_with.ensures.value c.if-starts_with.false
