@@ -35,8 +35,15 @@ def functions(text):
 
 
 def parameters(signature):
-    m = re.search(r'fn \w+(?:<[^(]*>)?\(', signature)
-    depth, i, out = 1, m.end(), ''
+    i = re.search(r'fn \w+', signature).end()
+    if signature[i] == '<':
+        depth = 1
+        while depth:
+            i += 1
+            depth += signature[i] == '<'
+            depth -= signature[i] == '>' and signature[i - 1] != '-'
+        i += 1
+    depth, i, out = 1, i + 1, ''
     while depth:
         c = signature[i]
         depth += c in '(<['

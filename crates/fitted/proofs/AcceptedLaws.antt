@@ -29,8 +29,6 @@ use Rattle.frame.specs.Framed.{Framed}
 use Rattle.frame.specs.SetUp.{Accepts, frame_in, globals_in, lean_in, members_in, names_in, values_in}
 use Rattle.frame.specs.declared.Setup.{Setup}
 use Rattle.frame.specs.Sheets.{SheetOf}
-use Rattle.frame.specs.Framed.{Sizes}
-use mathlib.Core.Path.{refl}
 use Rattle.frame.proofs.Stores as Stores
 use Rattle.frame.proofs.Stores.{enough-words}
 use Rattle.frame.proofs.VerdictLaws.{framed-verdict}

@@ -74,7 +74,6 @@ pub record Sizes (count w tw cw ns base : ℕ) : Type 0 where
   pub needs : count + 8 ≤ ns
   pub families : w + w ≤ base
 
-
 -- the stores that the words ask for, which are computed from so many members over w words: a block for each member and nine for the fields, the entries of conditions with the modes' sets, the
 -- needs, and two families
 pub record Stores (count w : ℕ) (tw cw ns base : List ℕ) : Type 0 where

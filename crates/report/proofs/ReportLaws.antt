@@ -1,12 +1,10 @@
 -- What writing the pages asks, from the set-up of a sheet that is not refused. Assumes nothing.
 use mathlib.Core.Path.{◌≡◌, sym}
 use mathlib.Core.List.{List}
-use Prim.Native.Nat.{ℕ, ◌+◌, ◌≤◌, ◌<◌}
-use lib.ListN.{length}
+use Prim.Native.Nat.{ℕ}
 use Rattle.tableau.specs.Families.{Ready}
 use Rattle.start.specs.Starts.{Based, in_base}
 use Rattle.tableau.proofs.TableauLaws.{rounds-of, start-types, surviving-types}
-use Rattle.judge.specs.Judged.{Places}
 use Rattle.limits.specs.declared.Limits.{Limits}
 use Rattle.limits.specs.Limits.{refusal_under}
 use Rattle.frame.specs.SetUp.{Accepts, globals_in, lean_in, members_in, names_in, values_in}
@@ -14,7 +12,7 @@ use Rattle.frame.specs.declared.Setup.{Setup}
 use Rattle.frame.specs.Sheets.{SheetOf}
 use Rattle.tableau.specs.declared.words.Sheet.{Sheet}
 use Rattle.fitted.proofs.AcceptedLaws.{by-parts, ready-of}
-use Rattle.frame.proofs.Stores.{enough-words, few_words}
+use Rattle.frame.proofs.Stores.{enough-words}
 use Rattle.frame.proofs.VerdictLaws.{framed-verdict}
 use Rattle.fitted.specs.Accepted.{verdict_in}
 use Rattle.pages.specs.Pages.{row_at}
