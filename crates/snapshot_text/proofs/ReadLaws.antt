@@ -1,4 +1,4 @@
--- The steps of the reader and its loops. Assumes nothing.
+-- The steps of the reader and its loop. Assumes nothing.
 use Prim.Native.Nat.{ℕ, zero, suc, ◌+◌, ◌*◌, ◌≤◌, ◌<◌}
 use native.Mathlib.Omega.{arith}
 use native.Mathlib.Numerals.{add-one}
@@ -72,9 +72,6 @@ pub record Running (m : ℕ) (s : List ℕ) (out₀ : List ℕ) (out : List ℕ)
   pub same : run m start_state out₀ s ≡ run m st out (drop i s)
 
 module _ {m : ℕ} {s : List ℕ} {out₀ : List ℕ} where
-  pub runs-begin : Running m s out₀ out₀ start_state 0
-  runs-begin = record { inside = fresh-inside 0 0 (omega arith) (omega arith); same = refl }
-
   pub runs_on : {out : List ℕ} {st : State} {i : ℕ} (out' : List ℕ) (st' : State) → m ≤ 8 → Running m s out₀ out st i → i < length s
       → out' ≡ set out (st.node * 8 + st.symbol) st.value → st' ≡ byte_step m st (get_or s i 0) → Running m s out₀ out' st' (i + 1)
   unfolding run
