@@ -21,7 +21,7 @@ fn book_in<const N: usize>(call: Call, length: u64)
     let store = &mut words[..at_most(length, N)];
     fill(store);
     match lockgraph::book_within(call.limits, call.sheet, store) {
-        Err(why) => write_refusal(call.out, why.number(), store),
+        Err(why) => write_refusal(call.out, why, store),
         Ok(b) => {
             write_book(
                 call.out,

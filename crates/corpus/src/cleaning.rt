@@ -11,7 +11,7 @@ pub fn clean(call: Call, length: u64) {
     fill(store);
     write_operation(call.out, call.line);
     match lockgraph::clean_within(call.limits, call.sheet, store) {
-        Err(why) => write_refusal(call.out, why.number(), store),
+        Err(why) => write_refusal(call.out, why, store),
         Ok(long) => write_clean(call.out, store, long),
     }
 }

@@ -15,7 +15,7 @@ pub fn snapshot(call: Call, escaped: &[u8], length: u64) -> Option<()> {
     fill(row);
     write_operation(call.out, call.line);
     match lockgraph::snapshot_within(call.limits, call.sheet, text.as_slice(), row) {
-        Err(why) => write_refusal(call.out, why.number(), row),
+        Err(why) => write_refusal(call.out, why, row),
         Ok(nodes) => write_row(call.out, row, nodes),
     }
     Some(())

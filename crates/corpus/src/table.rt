@@ -45,7 +45,7 @@ fn write_part(out: Stdout, first: &mut [u64], second: &[u64], answer: Result<Tab
 fn write_answer(out: Stdout, first: &mut [u64], second: &[u64], answer: Result<Tabled, Refusal>) {
     match answer {
         Err(why) => {
-            write_refused(out, why.number());
+            write_refused(out, why);
             write_end(out, as_promised(first, second, answer, 0));
         }
         Ok(t) => {

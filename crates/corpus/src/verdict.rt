@@ -10,7 +10,7 @@ pub fn verdict(call: Call) {
     let out = call.out;
     write_operation(out, call.line);
     match lockgraph::verdict_within(call.limits, call.sheet) {
-        Err(why) => write_refused(out, why.number()),
+        Err(why) => write_refused(out, why),
         Ok(Verdict::Open { naming, least }) => {
             write_text(out, b" open ");
             write_decimal(out, naming);
@@ -30,7 +30,7 @@ pub fn goal(call: Call) {
             write_text(out, b" ");
             write_escaped(out, lockgraph::goal_text_within(call.limits, call.sheet));
         }
-        Some(why) => write_refused(out, why.number()),
+        Some(why) => write_refused(out, why),
     }
     write_text(out, b"\n");
 }

@@ -1,6 +1,7 @@
 // The parts that the outcome lines of several operations have in common.
 use crate::output::{write_decimal, write_text, write_word};
 use crate::store::{Pattern, kept};
+use refusal::Refusal;
 use std::io::Stdout;
 
 // The operation as its line gives it, and a colon.
@@ -9,9 +10,8 @@ pub fn write_operation(out: Stdout, line: &[u8]) {
     write_text(out, b":");
 }
 
-pub fn write_refused(out: Stdout, k: u8) {
-    write_text(out, b" refused ");
-    write_decimal(out, u64::from(k));
+pub fn write_refused(out: Stdout, why: Refusal) {
+    let _ = print!(out; " refused {why}");
 }
 
 // Ends an outcome line, which says last whether a store was written where nothing is promised.
@@ -23,8 +23,8 @@ pub fn write_end(out: Stdout, kept: bool) {
 }
 
 // The refusal of an operation that was lent a store: none of it may be written.
-pub fn write_refusal<T: Pattern>(out: Stdout, k: u8, store: &[T]) {
-    write_refused(out, k);
+pub fn write_refusal<T: Pattern>(out: Stdout, why: Refusal, store: &[T]) {
+    write_refused(out, why);
     write_end(out, kept(store, 0));
 }
 

@@ -15,7 +15,7 @@ use tableau::words::Sheet;
 
 // What judging finds. It has names of its own, where an `Option` would do, for they say what a reader must know: under which naming the goal is open, with the least type
 // there, or that it is unsatisfiable.
-#[derive(Clone, Copy)]
+#[derive(Clone, Copy, Debug, PartialEq, Eq)]
 pub enum Verdict {
     Open { naming: u64, least: usize },
     Unsatisfiable,

@@ -24,7 +24,7 @@ fn put(out: &mut [u8], at: usize, v: u8)
 }
 
 // After text that is refused: no byte leads on from here.
-// Not None: `line_store`, which may not change, says what the store holds behind a refused byte, so the reader goes on from this state.
+// Not None: `line_store` says what the store holds behind a refused byte, so the reader goes on from this state.
 fn bad_state() -> State
     ensures { result ≡ bad_state }
 {
