@@ -19,7 +19,10 @@ pub fn copy(dst: &mut [u64], src: &[u64], w: usize)
     requires { (w ≤ length dst.old) × (w ≤ length src.now) }
     ensures { dst.new ≡ packed w (member src.now) dst.old }
 {
-    dst[..w].copy_from_slice(&src[..w]);
+    // Not `copy_from_slice`, which asks for the C library's memmove.
+    for i in 0..w {
+        dst[i] = src[i];
+    }
 }
 
 // dst := dst less src, in the first w words: whether src has any.

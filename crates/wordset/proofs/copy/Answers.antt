@@ -1,8 +1,9 @@
-use mathlib.Core.Path.{ap, ◌∙◌}
-use mathlib.Core.List.{◌++◌}
-use lib.ListN.{drop}
-use Rattle.wordset.proofs.WordLaws.{packed-copy}
+use Rattle.wordset.proofs.AnswersLaws.{answers-word, word-answers}
+use Rattle.wordset.proofs.Filling.{begins, goes}
 use Rattle.wordset.proofs.copy.Goals as goal
 
-pub returns : goal.returns
-returns c = let e = c.copy_from_slice.ensures.after in ap (λ x. x ++ drop c.args.w c.args.dst.now) e ∙ packed-copy c.args.w c.args.src.now c.args.dst.now c.requires.1 c.requires.0 (λ i. (c.type_inv.src i).fits)
+pub loop-i-preserved : goal.loop-i-preserved
+loop-i-preserved c = goes _ c.loop-i.invariant c.loop-i-test.true (answers-word (word-answers _ _ (c.type_inv.src _).fits))
+
+pub loop-i-init : goal.loop-i-init
+loop-i-init c = begins
