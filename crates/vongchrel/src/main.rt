@@ -3,14 +3,16 @@
 // as limits out of their range are.
 #![tactic(auto)]
 
-ghost use Rattle.std.specs.Prelude.{◌≤◌, length};
+ghost use Rattle.std.specs.Prelude.{◌≤◌, length, IfSome};
 
 use limits::Limits;
 use std::env::{Env, FillError};
 use std::io::{Read, Stdin};
 
 // An argument, read into `word`; none where there is no such argument, or a longer one.
-fn argument<'a>(env: &impl Env, i: usize, word: &'a mut [u8]) -> Option<&'a [u8]> {
+fn argument<'a>(env: &impl Env, i: usize, word: &'a mut [u8]) -> Option<&'a [u8]>
+    ensures { IfSome result (λ text. length text.now ≤ length word.old) }
+{
     let n = env.arg(i, word).ok()?;
     Some(&word[..n])
 }
@@ -58,19 +60,15 @@ fn limit_at(env: &impl Env, i: usize) -> Option<usize> {
 }
 
 // Two numbers, the limits of the lean and of the closure.
-fn limits_at(env: &impl Env, i: usize) -> Option<Limits>
-    requires { i ≤ 2 }
-{
+fn limits_at(env: &impl Env, i: usize) -> Option<Limits> {
     Some(Limits {
         lean: limit_at(env, i)?,
-        closure: limit_at(env, i + 1)?,
+        closure: limit_at(env, i.checked_add(1)?)?,
     })
 }
 
 // The limits that the arguments from `first` on give: document 01's without any; for what are not two numbers, limits out of their range.
-fn limits_from(env: &impl Env, first: usize) -> Limits
-    requires { first ≤ 2 }
-{
+fn limits_from(env: &impl Env, first: usize) -> Limits {
     let none = Limits {
         lean: 0,
         closure: 0,
