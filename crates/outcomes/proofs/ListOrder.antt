@@ -78,6 +78,7 @@ list-former {L} {s} {r} {d} {o} {d'} x =
     let is : k ≡ 0 → d' ≡ listed_in s r ++ drop left d = λ z. x.store-holds ∙ ap (λ q. list_store s r q d) z in
     record {
       answer = x.answer;
+      number = x.number;
       untouched = λ n. x.store-holds ∙ sym (refused-case (λ q. d) (λ q. list_store s r q d) (λ q. refl) k n);
       listed = λ z. subst (EachOnce (survivors_in s r)) (sym (ap (take left) (is z) ∙ take_at (listed_in s r) (drop left d) left (listed-length s r))) (listed-once s r);
       rest = λ z. ap (drop left) (is z) ∙ drop_at (listed_in s r) (drop left d) left (listed-length s r);
